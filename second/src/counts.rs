@@ -1,0 +1,192 @@
+//! What a stream reaches: answers, refusals by number, and explanations by
+//! rule, narrowing or conflict.
+
+use std::io::{self, Read, Write};
+
+use crate::answers::{run_plan, run_read};
+use crate::checker::ReadAnswer;
+use crate::explanation::CONFLICT_KIND;
+use crate::gen_jobs::slip_places;
+use crate::job::{Refusal, EVENT_WORDS, MAX_EVENTS};
+use crate::propagator::{PlanAnswer, Tally};
+use crate::stream::{Call, Record, RecordReader};
+
+const QUESTIONS: usize = 20;
+const RULES: usize = 15;
+
+/// Explanations by rule number.
+#[derive(Clone, Copy, Default)]
+struct RuleCounts {
+    narrowing: [u64; RULES],
+    conflict: [u64; RULES],
+}
+
+impl RuleCounts {
+    fn add_list(&mut self, list: &[i32]) {
+        let places = slip_places(list);
+        for place in &places[..places.len() - 1] {
+            let rule = list[*place] as usize;
+            if list[place + 3] == CONFLICT_KIND {
+                self.conflict[rule] += 1;
+            } else {
+                self.narrowing[rule] += 1;
+            }
+        }
+    }
+}
+
+/// Everything that is counted.
+#[derive(Clone)]
+struct Counts {
+    settled: u64,
+    conflict: u64,
+    stopped: u64,
+    plan_refused: [u64; QUESTIONS],
+    plan_places: [u64; QUESTIONS],
+    plan_rules: RuleCounts,
+    most_rounds: usize,
+    events: [u64; MAX_EVENTS + 1],
+    open: u64,
+    read_conflict: u64,
+    read_refused: [u64; QUESTIONS],
+    read_places: [u64; QUESTIONS],
+    read_rules: RuleCounts,
+    words: u64,
+}
+
+impl Counts {
+    fn new() -> Counts {
+        Counts {
+            settled: 0,
+            conflict: 0,
+            stopped: 0,
+            plan_refused: [0; QUESTIONS],
+            plan_places: [0; QUESTIONS],
+            plan_rules: RuleCounts::default(),
+            most_rounds: 0,
+            events: [0; MAX_EVENTS + 1],
+            open: 0,
+            read_conflict: 0,
+            read_refused: [0; QUESTIONS],
+            read_places: [0; QUESTIONS],
+            read_rules: RuleCounts::default(),
+            words: 0,
+        }
+    }
+
+    fn add(&mut self, record: &mut Record) {
+        let tables = [&record.windows, &record.lags, &record.buffer];
+        self.words += tables.iter().map(|table| table.len() as u64).sum::<u64>() + 8;
+        match record.call {
+            Call::Plan => self.add_plan(record),
+            Call::Read => self.add_read(record),
+        }
+    }
+
+    fn add_plan(&mut self, record: &mut Record) {
+        let (counter, tally) = match run_plan(record) {
+            PlanAnswer::Settled(tally) => (&mut self.settled, tally),
+            PlanAnswer::Conflict(tally) => (&mut self.conflict, tally),
+            PlanAnswer::Stopped(tally) => (&mut self.stopped, tally),
+            PlanAnswer::Refused(refusal) => {
+                add_refusal(refusal, &mut self.plan_refused, &mut self.plan_places);
+                return;
+            }
+        };
+        *counter += 1;
+        let Tally { rounds, length, .. } = tally;
+        self.most_rounds = self.most_rounds.max(rounds);
+        self.events[record.windows.len() / EVENT_WORDS] += 1;
+        self.plan_rules.add_list(&record.buffer[..length]);
+    }
+
+    fn add_read(&mut self, record: &mut Record) {
+        let counter = match run_read(record) {
+            ReadAnswer::Open => &mut self.open,
+            ReadAnswer::Conflict => &mut self.read_conflict,
+            ReadAnswer::Refused(refusal) => {
+                add_refusal(refusal, &mut self.read_refused, &mut self.read_places);
+                return;
+            }
+        };
+        *counter += 1;
+        self.read_rules.add_list(&record.buffer);
+    }
+
+    fn print(&self, out: &mut impl Write) -> io::Result<()> {
+        writeln!(out, "words in the stream {}", self.words)?;
+        writeln!(
+            out,
+            "plan: settled {} conflict {} stopped {} refused {} most rounds {}",
+            self.settled,
+            self.conflict,
+            self.stopped,
+            self.plan_refused.iter().sum::<u64>(),
+            self.most_rounds
+        )?;
+        let fewest = self.events.iter().min().copied().unwrap_or(0);
+        writeln!(
+            out,
+            "plan: taken jobs for the rarest event count {fewest}, events 0: {}, 64: {}",
+            self.events[0], self.events[MAX_EVENTS]
+        )?;
+        writeln!(
+            out,
+            "read: open {} conflict {} refused {}",
+            self.open,
+            self.read_conflict,
+            self.read_refused.iter().sum::<u64>()
+        )?;
+        self.print_refusals(out)?;
+        self.print_rules(out)
+    }
+
+    fn print_refusals(&self, out: &mut impl Write) -> io::Result<()> {
+        writeln!(out, "refusal   plan  (place > 0)   read  (place > 0)")?;
+        for number in 1..QUESTIONS {
+            writeln!(
+                out,
+                "{number:>7} {:>6} {:>12} {:>6} {:>12}",
+                self.plan_refused[number],
+                self.plan_places[number],
+                self.read_refused[number],
+                self.read_places[number]
+            )?;
+        }
+        Ok(())
+    }
+
+    fn print_rules(&self, out: &mut impl Write) -> io::Result<()> {
+        writeln!(
+            out,
+            "   rule   plan narrow  conflict   read narrow  conflict"
+        )?;
+        for rule in 1..RULES {
+            writeln!(
+                out,
+                "{rule:>7} {:>13} {:>9} {:>13} {:>9}",
+                self.plan_rules.narrowing[rule],
+                self.plan_rules.conflict[rule],
+                self.read_rules.narrowing[rule],
+                self.read_rules.conflict[rule]
+            )?;
+        }
+        Ok(())
+    }
+}
+
+fn add_refusal(refusal: Refusal, numbers: &mut [u64; QUESTIONS], places: &mut [u64; QUESTIONS]) {
+    let number = refusal.number as usize;
+    numbers[number] += 1;
+    places[number] += u64::from(refusal.place > 0);
+}
+
+/// Counts a whole stream, record by record.
+pub fn write_counts(input: impl Read, out: &mut impl Write) -> io::Result<()> {
+    let mut records = RecordReader::new(input);
+    let mut counts = Counts::new();
+    while let Some(mut record) = records.next_record()? {
+        counts.add(&mut record);
+    }
+    counts.print(out)
+}

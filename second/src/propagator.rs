@@ -1,0 +1,274 @@
+//! The propagator (document 01: planner): rounds of the fourteen rules until a
+//! round writes nothing, a conflict shows, or the log's room is out.
+
+use crate::explain::{premises, Finding};
+use crate::explanation::{
+    explanation_words, write_explanation, write_trailer, Conclusion, Premise, TRAILER_WORDS,
+};
+use crate::job::{store_windows, Job, Refusal, Settings, Window, AMOUNT_BOUND};
+use crate::rules::{
+    lag_earliest_bound, lag_latest_bound, level, share_bound, wait_bound, Candidate, Family, Level,
+    Rule,
+};
+
+/// What a taken call counted.
+#[derive(Clone, Copy, Debug, PartialEq, Eq)]
+pub struct Tally {
+    /// Explanations (slips) written.
+    pub slips: usize,
+    /// Rounds begun.
+    pub rounds: usize,
+    /// Words of the log (list), the trailer included.
+    pub length: usize,
+}
+
+/// The propagator's answer.
+#[derive(Clone, Copy, Debug, PartialEq, Eq)]
+pub enum PlanAnswer {
+    Settled(Tally),
+    Conflict(Tally),
+    Stopped(Tally),
+    Refused(Refusal),
+}
+
+/// Narrows the window table and writes the log into the buffer. Takes any
+/// numbers and any lengths; a refused call changes no word.
+pub fn plan(
+    h: i32,
+    lmin: i32,
+    lmax: i32,
+    q: i32,
+    windows: &mut [i32],
+    lags: &[i32],
+    buffer: &mut [i32],
+) -> PlanAnswer {
+    let settings = Settings {
+        horizon: h,
+        lower: lmin,
+        upper: lmax,
+        opening: q,
+    };
+    plan_within(AMOUNT_BOUND, settings, windows, lags, buffer)
+}
+
+/// `plan` with another greatest amount than document 01's.
+pub fn plan_within(
+    amount_bound: i64,
+    settings: Settings,
+    windows: &mut [i32],
+    lags: &[i32],
+    buffer: &mut [i32],
+) -> PlanAnswer {
+    let job = match Job::admit(amount_bound, settings, windows, lags, buffer.len()) {
+        Ok(job) => job,
+        Err(refusal) => return PlanAnswer::Refused(refusal),
+    };
+    let mut run = Run::new(&job, buffer);
+    let halt = run.rounds();
+    let tally = run.close();
+    store_windows(&run.windows, windows);
+    match halt {
+        None => PlanAnswer::Settled(tally),
+        Some(Halt::Conflict) => PlanAnswer::Conflict(tally),
+        Some(Halt::Stopped) => PlanAnswer::Stopped(tally),
+    }
+}
+
+/// Why a run ended in the middle of a round.
+#[derive(Clone, Copy, Debug, PartialEq, Eq)]
+enum Halt {
+    Conflict,
+    Stopped,
+}
+
+/// A run of the propagator over an accepted job.
+struct Run<'a> {
+    job: &'a Job,
+    windows: Vec<Window>,
+    buffer: &'a mut [i32],
+    /// Words written so far.
+    used: usize,
+    slips: usize,
+    rounds: usize,
+    /// Where the last explanation begins.
+    last: usize,
+    premises: Vec<Premise>,
+    candidates: Vec<Candidate>,
+}
+
+impl<'a> Run<'a> {
+    fn new(job: &'a Job, buffer: &'a mut [i32]) -> Run<'a> {
+        Run {
+            job,
+            windows: job.windows.clone(),
+            buffer,
+            used: 0,
+            slips: 0,
+            rounds: 0,
+            last: 0,
+            premises: Vec::new(),
+            candidates: Vec::new(),
+        }
+    }
+
+    /// Rounds until one writes nothing, or until a halt.
+    fn rounds(&mut self) -> Option<Halt> {
+        loop {
+            let before = self.slips;
+            self.rounds += 1;
+            match self.round() {
+                Err(halt) => return Some(halt),
+                Ok(()) if self.slips == before => return None,
+                Ok(()) => {}
+            }
+        }
+    }
+
+    /// One round: the lags in table order, then the events in order.
+    fn round(&mut self) -> Result<(), Halt> {
+        for lag in 0..self.job.lags.len() {
+            self.lag(lag)?;
+        }
+        for e in 0..self.windows.len() {
+            for family in Family::ALL {
+                self.family(family, e)?;
+            }
+        }
+        Ok(())
+    }
+
+    /// Rules 1 and 2 for a lag.
+    fn lag(&mut self, lag: usize) -> Result<(), Halt> {
+        let bound = lag_latest_bound(self.job, &self.windows, lag);
+        self.conclude(Rule::LagLatest, lag, self.job.lags[lag].a, bound)?;
+        let bound = lag_earliest_bound(self.job, &self.windows, lag);
+        self.conclude(Rule::LagEarliest, lag, self.job.lags[lag].b, bound)
+    }
+
+    /// The three rules of a family for an event.
+    fn family(&mut self, family: Family, e: usize) -> Result<(), Halt> {
+        let mut at = level(self.job, &self.windows, family, e);
+        self.level(family, e, at)?;
+        if self.wait(family, e, at)? {
+            // t_min(e) has moved: the sums are taken anew.
+            at = level(self.job, &self.windows, family, e);
+        }
+        self.shares(family, e, at)
+    }
+
+    /// Rules 3, 6, 9, 12.
+    fn level(&mut self, family: Family, e: usize, at: Level) -> Result<(), Halt> {
+        if at.most < family.side.limit(self.job) {
+            let finding = Finding {
+                rule: Rule::Level(family),
+                subject: e,
+                target: e,
+                bound: None,
+                conflict: true,
+            };
+            return self.conflict(&finding);
+        }
+        Ok(())
+    }
+
+    /// Rules 4, 7, 10, 13; says whether a slip was written.
+    fn wait(&mut self, family: Family, e: usize, at: Level) -> Result<bool, Halt> {
+        let before = self.slips;
+        let bound = wait_bound(
+            self.job,
+            &self.windows,
+            family,
+            e,
+            at.sure,
+            &mut self.candidates,
+        );
+        if let Some(bound) = bound {
+            self.conclude(Rule::Wait(family), e, e, bound)?;
+        }
+        Ok(self.slips != before)
+    }
+
+    /// Rules 5, 8, 11, 14, targets in event order. The end moved is never one
+    /// that the level reads, so one level serves all targets; and only a window
+    /// wider than what is to spare can be narrowed.
+    fn shares(&mut self, family: Family, e: usize, at: Level) -> Result<(), Halt> {
+        let spare = at.most - family.side.limit(self.job);
+        for target in 0..self.windows.len() {
+            let window = &self.windows[target];
+            if window.h_max - window.h_min <= spare {
+                continue;
+            }
+            if let Some(bound) = share_bound(self.job, &self.windows, family, e, target, at.most) {
+                self.conclude(Rule::Share(family), e, target, bound)?;
+            }
+        }
+        Ok(())
+    }
+
+    /// A rule's bound: nothing, a narrowing, or a conflict.
+    fn conclude(
+        &mut self,
+        rule: Rule,
+        subject: usize,
+        target: usize,
+        bound: i64,
+    ) -> Result<(), Halt> {
+        let Some(end) = rule.end() else {
+            return Ok(());
+        };
+        let window = self.windows[target];
+        if !end.narrows(&window, bound) {
+            return Ok(());
+        }
+        let finding = Finding {
+            rule,
+            subject,
+            target,
+            bound: Some(bound),
+            conflict: end.passes(&window, bound),
+        };
+        if finding.conflict {
+            return self.conflict(&finding);
+        }
+        self.write(&finding, Conclusion::Bound(end, bound))?;
+        end.set(&mut self.windows[target], bound);
+        Ok(())
+    }
+
+    /// Writes a conflict's explanation; if it does not fit, the run is stopped.
+    fn conflict(&mut self, finding: &Finding) -> Result<(), Halt> {
+        self.write(finding, Conclusion::Conflict)?;
+        Err(Halt::Conflict)
+    }
+
+    /// Writes one explanation if it and the trailer both fit.
+    fn write(&mut self, finding: &Finding, conclusion: Conclusion) -> Result<(), Halt> {
+        premises(self.job, &self.windows, finding, &mut self.premises);
+        let length = explanation_words(self.premises.len());
+        if self.used + length + TRAILER_WORDS > self.buffer.len() {
+            return Err(Halt::Stopped);
+        }
+        write_explanation(
+            &mut self.buffer[self.used..],
+            finding.rule.number(),
+            finding.subject,
+            finding.target,
+            conclusion,
+            &self.premises,
+        );
+        self.last = self.used;
+        self.used += length;
+        self.slips += 1;
+        Ok(())
+    }
+
+    /// Writes the trailer and hands back the counts.
+    fn close(&mut self) -> Tally {
+        write_trailer(&mut self.buffer[self.used..], self.slips, self.last);
+        Tally {
+            slips: self.slips,
+            rounds: self.rounds,
+            length: self.used + TRAILER_WORDS,
+        }
+    }
+}

@@ -1,0 +1,198 @@
+//! The text program: a job in decimal numbers on standard input, the answer
+//! in lines on standard output.
+
+use std::fmt::Write as _;
+use std::io::{self, Read};
+
+use crate::job::{Refusal, EVENT_WORDS, LAG_WORDS, MAX_EVENTS, MAX_LAGS};
+use crate::propagator::{plan, PlanAnswer, Tally};
+
+/// The log's room in words.
+pub const TEXT_ROOM: usize = 16_000;
+/// H, Lmin, Lmax, Q, n, m.
+const HEAD_NUMBERS: usize = 6;
+/// No well-formed text has more numbers than this.
+const MOST_NUMBERS: usize = HEAD_NUMBERS + EVENT_WORDS * MAX_EVENTS + LAG_WORDS * MAX_LAGS;
+/// The number of the refusal of a text not formed as asked.
+const MALFORMED: i32 = 20;
+/// The size of the pieces that the text is read in.
+const PIECE: usize = 16 * 1024;
+
+/// The text is not formed as asked.
+#[derive(Clone, Copy, Debug, PartialEq, Eq)]
+pub struct Malformed;
+
+/// A job as read from a text.
+struct TextJob {
+    head: [i32; 4],
+    windows: Vec<i32>,
+    lags: Vec<i32>,
+}
+
+/// A number being read.
+#[derive(Clone, Copy)]
+struct Pending {
+    negative: bool,
+    digits: bool,
+    magnitude: i64,
+}
+
+/// Takes a text piece by piece and gathers its numbers.
+#[derive(Default)]
+pub struct NumberReader {
+    numbers: Vec<i32>,
+    pending: Option<Pending>,
+}
+
+impl NumberReader {
+    /// Takes one more piece of the text.
+    pub fn take(&mut self, piece: &[u8]) -> Result<(), Malformed> {
+        piece.iter().try_for_each(|byte| self.byte(*byte))
+    }
+
+    /// The numbers of the whole text.
+    pub fn finish(mut self) -> Result<Vec<i32>, Malformed> {
+        self.end_number()?;
+        Ok(self.numbers)
+    }
+
+    fn byte(&mut self, byte: u8) -> Result<(), Malformed> {
+        match byte {
+            b' ' | b'\t' | b'\n' | b'\r' => self.end_number(),
+            b'-' if self.pending.is_none() => {
+                self.pending = Some(Pending {
+                    negative: true,
+                    digits: false,
+                    magnitude: 0,
+                });
+                Ok(())
+            }
+            b'0'..=b'9' => self.digit(i64::from(byte - b'0')),
+            _ => Err(Malformed),
+        }
+    }
+
+    /// One more digit. A value beyond 32 bits can only grow, so it ends here.
+    fn digit(&mut self, digit: i64) -> Result<(), Malformed> {
+        let pending = self.pending.get_or_insert(Pending {
+            negative: false,
+            digits: true,
+            magnitude: 0,
+        });
+        pending.digits = true;
+        pending.magnitude = pending.magnitude * 10 + digit;
+        if pending.magnitude > 1 << 31 {
+            return Err(Malformed);
+        }
+        Ok(())
+    }
+
+    /// A separator or the end of the text: stores the number, if there is one.
+    fn end_number(&mut self) -> Result<(), Malformed> {
+        let Some(pending) = self.pending.take() else {
+            return Ok(());
+        };
+        if !pending.digits || self.numbers.len() == MOST_NUMBERS {
+            return Err(Malformed);
+        }
+        let value = if pending.negative {
+            -pending.magnitude
+        } else {
+            pending.magnitude
+        };
+        self.numbers
+            .push(i32::try_from(value).map_err(|_| Malformed)?);
+        Ok(())
+    }
+}
+
+/// Splits the numbers into the parts of a job.
+fn job_of(numbers: &[i32]) -> Result<TextJob, Malformed> {
+    let head = numbers.get(..HEAD_NUMBERS).ok_or(Malformed)?;
+    let events = count_up_to(head[4], MAX_EVENTS)?;
+    let lags = count_up_to(head[5], MAX_LAGS)?;
+    let rest = &numbers[HEAD_NUMBERS..];
+    let window_words = events * EVENT_WORDS;
+    if rest.len() != window_words + lags * LAG_WORDS {
+        return Err(Malformed);
+    }
+    Ok(TextJob {
+        head: [head[0], head[1], head[2], head[3]],
+        windows: rest[..window_words].to_vec(),
+        lags: rest[window_words..].to_vec(),
+    })
+}
+
+fn count_up_to(word: i32, most: usize) -> Result<usize, Malformed> {
+    match usize::try_from(word) {
+        Ok(count) if count <= most => Ok(count),
+        _ => Err(Malformed),
+    }
+}
+
+/// The lines that answer a job.
+fn answer_job(mut job: TextJob) -> String {
+    let mut buffer = vec![0; TEXT_ROOM];
+    let [h, lmin, lmax, q] = job.head;
+    let answer = plan(h, lmin, lmax, q, &mut job.windows, &job.lags, &mut buffer);
+    match answer {
+        PlanAnswer::Settled(tally) => taken("settled", tally, &job.windows),
+        PlanAnswer::Conflict(tally) => taken("conflict", tally, &job.windows),
+        PlanAnswer::Stopped(tally) => taken("stopped", tally, &job.windows),
+        PlanAnswer::Refused(refusal) => refused(refusal),
+    }
+}
+
+fn taken(word: &str, tally: Tally, windows: &[i32]) -> String {
+    let mut out = format!("{word} {} {}\n", tally.slips, tally.rounds);
+    for (event, ends) in windows.chunks_exact(EVENT_WORDS).enumerate() {
+        // Writing into a string cannot fail.
+        let _ = writeln!(
+            out,
+            "{event} {} {} {} {}",
+            ends[0], ends[1], ends[2], ends[3]
+        );
+    }
+    out
+}
+
+fn refused(refusal: Refusal) -> String {
+    format!("refused {} {}\n", refusal.number, refusal.place)
+}
+
+/// The lines for numbers read, or for a text that gave none.
+fn answer_numbers(numbers: Result<Vec<i32>, Malformed>) -> String {
+    match numbers.and_then(|numbers| job_of(&numbers)) {
+        Ok(job) => answer_job(job),
+        Err(Malformed) => refused(Refusal {
+            number: MALFORMED,
+            place: 0,
+        }),
+    }
+}
+
+/// The answer to a whole text.
+pub fn answer_text(text: &[u8]) -> String {
+    let mut reader = NumberReader::default();
+    let numbers = reader.take(text).and_then(|()| reader.finish());
+    answer_numbers(numbers)
+}
+
+/// The answer to a text of any length, read in pieces.
+pub fn answer_input(input: &mut impl Read) -> io::Result<String> {
+    let mut reader = NumberReader::default();
+    let mut piece = [0; PIECE];
+    loop {
+        let count = match input.read(&mut piece) {
+            Ok(count) => count,
+            Err(error) if error.kind() == io::ErrorKind::Interrupted => continue,
+            Err(error) => return Err(error),
+        };
+        if count == 0 {
+            return Ok(answer_numbers(reader.finish()));
+        }
+        if reader.take(&piece[..count]).is_err() {
+            return Ok(answer_numbers(Err(Malformed)));
+        }
+    }
+}

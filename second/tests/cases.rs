@@ -1,0 +1,311 @@
+//! The cases K1 to K11 of document 01, every word of both tables.
+
+use second::{plan, read, PlanAnswer, ReadAnswer, Refusal, Tally};
+
+/// What a buffer word holds before a call.
+const JUNK: i32 = -777;
+
+/// A job of the cases: H 100, Lmin 0, Lmax 10 unless changed.
+#[derive(Clone)]
+struct Case {
+    h: i32,
+    q: i32,
+    windows: Vec<i32>,
+    lags: Vec<i32>,
+    room: usize,
+}
+
+fn case(q: i32, windows: &[i32]) -> Case {
+    Case {
+        h: 100,
+        q,
+        windows: windows.to_vec(),
+        lags: Vec::new(),
+        room: 40,
+    }
+}
+
+impl Case {
+    fn with_lags(mut self, lags: &[i32]) -> Case {
+        self.lags = lags.to_vec();
+        self
+    }
+
+    fn with_room(mut self, room: usize) -> Case {
+        self.room = room;
+        self
+    }
+
+    /// The answer, the window table and the buffer after the call.
+    fn plan(&self) -> (PlanAnswer, Vec<i32>, Vec<i32>) {
+        let mut windows = self.windows.clone();
+        let mut buffer = vec![JUNK; self.room];
+        let answer = plan(self.h, 0, 10, self.q, &mut windows, &self.lags, &mut buffer);
+        (answer, windows, buffer)
+    }
+
+    /// The answer and the window table after the call.
+    fn read(&self, list: &[i32]) -> (ReadAnswer, Vec<i32>) {
+        let mut windows = self.windows.clone();
+        let answer = read(self.h, 0, 10, self.q, &mut windows, &self.lags, list);
+        (answer, windows)
+    }
+
+    /// Checks all words of a call that is taken, and that the checker comes to
+    /// the same windows and verdict.
+    fn gives(&self, answer: PlanAnswer, windows: &[i32], list: &[i32]) {
+        let mut buffer = list.to_vec();
+        buffer.resize(self.room, JUNK);
+        assert_eq!(self.plan(), (answer, windows.to_vec(), buffer));
+        let verdict = match answer {
+            PlanAnswer::Conflict(_) => ReadAnswer::Conflict,
+            _ => ReadAnswer::Open,
+        };
+        assert_eq!(self.read(list), (verdict, windows.to_vec()));
+    }
+
+    /// Checks that a call is refused and changes no word.
+    fn is_refused(&self, number: i32, place: usize) {
+        let refusal = Refusal { number, place };
+        let buffer = vec![JUNK; self.room];
+        assert_eq!(
+            self.plan(),
+            (
+                PlanAnswer::Refused(refusal),
+                self.windows.clone(),
+                buffer.clone()
+            )
+        );
+        assert_eq!(
+            self.read(&buffer),
+            (ReadAnswer::Refused(refusal), self.windows.clone())
+        );
+    }
+}
+
+fn tally(slips: usize, rounds: usize, length: usize) -> Tally {
+    Tally {
+        slips,
+        rounds,
+        length,
+    }
+}
+
+fn refused(number: i32, place: usize) -> ReadAnswer {
+    ReadAnswer::Refused(Refusal { number, place })
+}
+
+const K1_WINDOWS: [i32; 8] = [5, 40, 6, 6, 0, 30, -4, -4];
+const K1_LEFT: [i32; 8] = [5, 40, 6, 6, 5, 30, -4, -4];
+const K1_LIST: [i32; 16] = [10, 1, 1, 1, 5, 2, 0, 1, 5, 1, 4, -4, 13, 1, 0, 4207];
+
+#[test]
+fn k1_pull_waits_for_delivery() {
+    let answer = PlanAnswer::Settled(tally(1, 2, 16));
+    case(0, &K1_WINDOWS).gives(answer, &K1_LEFT, &K1_LIST);
+    case(0, &K1_WINDOWS)
+        .with_room(16)
+        .gives(answer, &K1_LEFT, &K1_LIST);
+}
+
+#[test]
+fn k2_no_room() {
+    let answer = PlanAnswer::Stopped(tally(0, 1, 3));
+    for room in 3..16 {
+        case(0, &K1_WINDOWS)
+            .with_room(room)
+            .gives(answer, &K1_WINDOWS, &[0, 0, 4207]);
+    }
+}
+
+#[test]
+fn k3_no_events() {
+    case(0, &[]).gives(PlanAnswer::Settled(tally(0, 1, 3)), &[], &[0, 0, 4207]);
+}
+
+#[test]
+fn k4_pull_beyond_stock() {
+    let windows = [0, 30, -4, -4];
+    case(3, &windows).gives(
+        PlanAnswer::Conflict(tally(1, 1, 13)),
+        &windows,
+        &[9, 0, 0, 0, 0, 1, 0, 4, -4, 10, 1, 0, 4207],
+    );
+    let settled = PlanAnswer::Settled(tally(0, 1, 3));
+    case(4, &windows).gives(settled, &windows, &[0, 0, 4207]);
+}
+
+#[test]
+fn k5_pull_made_smaller() {
+    case(5, &[0, 30, -9, -2]).gives(
+        PlanAnswer::Settled(tally(1, 2, 10)),
+        &[0, 30, -5, -2],
+        &[11, 0, 0, 3, -5, 0, 7, 1, 0, 4207],
+    );
+}
+
+#[test]
+fn k6_delivery_made_smaller() {
+    case(0, &[0, 30, 7, 20]).gives(
+        PlanAnswer::Settled(tally(1, 2, 10)),
+        &[0, 30, 7, 10],
+        &[14, 0, 0, 4, 10, 0, 7, 1, 0, 4207],
+    );
+    case(0, &[0, 30, 11, 20]).gives(
+        PlanAnswer::Conflict(tally(1, 1, 13)),
+        &[0, 30, 11, 20],
+        &[12, 0, 0, 0, 0, 1, 0, 3, 11, 10, 1, 0, 4207],
+    );
+}
+
+#[test]
+fn k7_one_minute_is_netted() {
+    let windows = [7, 7, 6, 6, 7, 7, -4, -4];
+    let settled = PlanAnswer::Settled(tally(0, 1, 3));
+    case(0, &windows).gives(settled, &windows, &[0, 0, 4207]);
+}
+
+#[test]
+fn k8_lag() {
+    case(0, &[0, 10, 0, 0, 0, 6, 0, 0])
+        .with_lags(&[0, 1, -2])
+        .gives(
+            PlanAnswer::Settled(tally(2, 2, 23)),
+            &[0, 4, 0, 0, 2, 6, 0, 0],
+            &[
+                1, 0, 0, 2, 4, 1, 1, 2, 6, 10, //
+                2, 0, 1, 1, 2, 1, 0, 1, 0, 10, //
+                2, 10, 4207,
+            ],
+        );
+}
+
+#[test]
+fn k9_edited_lists() {
+    let job = case(0, &K1_WINDOWS);
+    let edited = |place: usize, word: i32| {
+        let mut list = K1_LIST;
+        list[place] = word;
+        job.read(&list)
+    };
+    assert_eq!(edited(4, 6), (refused(16, 0), K1_WINDOWS.to_vec()));
+    let left = vec![5, 40, 6, 6, 4, 30, -4, -4];
+    assert_eq!(edited(4, 4), (ReadAnswer::Open, left));
+    assert_eq!(edited(8, 6), (refused(15, 0), K1_WINDOWS.to_vec()));
+}
+
+#[test]
+fn k10_order_of_questions() {
+    let mut job = case(11, &[]);
+    job.h = 20_001;
+    job.is_refused(1, 0);
+    job.h = 20_000;
+    job.is_refused(3, 0);
+    case(0, &[0, 30, -1, 1, 5, 4, 2, 2]).is_refused(5, 1);
+}
+
+#[test]
+fn k11_limits_of_the_tables() {
+    let events = |count: usize| [0, 100, 0, 0].repeat(count);
+    let settled = PlanAnswer::Settled(tally(0, 1, 3));
+    case(0, &events(64)).gives(settled, &events(64), &[0, 0, 4207]);
+    case(0, &events(65)).is_refused(4, 0);
+    let two = || case(0, &events(2));
+    two()
+        .with_lags(&[0, 1, 20_000])
+        .gives(settled, &events(2), &[0, 0, 4207]);
+    two().with_lags(&[0, 1, 20_001]).is_refused(10, 0);
+    two().with_lags(&[0, 0, 1]).is_refused(9, 0);
+    two().with_room(3).gives(settled, &events(2), &[0, 0, 4207]);
+    two().with_room(2).is_refused(11, 0);
+}
+
+// ---------------------------------------------------------------------------
+// Readings of the paper that the cases do not show
+// ---------------------------------------------------------------------------
+
+#[test]
+fn a_count_too_large_or_too_small() {
+    let job = case(0, &K1_WINDOWS);
+    let mut list = K1_LIST;
+    list[13] = 2;
+    assert_eq!(job.read(&list).0, refused(13, 1));
+    list[13] = 0;
+    assert_eq!(job.read(&list).0, refused(19, 0));
+    list[13] = -1;
+    assert_eq!(job.read(&list).0, refused(12, 0));
+    let conflict = case(3, &[0, 30, -4, -4]);
+    let list = [9, 0, 0, 0, 0, 1, 0, 4, -4, 10, 2, 0, 4207];
+    assert_eq!(conflict.read(&list).0, refused(18, 0));
+}
+
+#[test]
+fn a_lag_that_passes_the_opposite_end() {
+    // Rule 1 gives t(0) ≤ 0 − 1, below 0 and past t_min.
+    case(0, &[0, 5, 0, 0, 0, 0, 0, 0])
+        .with_lags(&[0, 1, -1])
+        .gives(
+            PlanAnswer::Conflict(tally(1, 1, 16)),
+            &[0, 5, 0, 0, 0, 0, 0, 0],
+            &[1, 0, 0, 0, 0, 2, 0, 1, 0, 1, 2, 0, 13, 1, 0, 4207],
+        );
+    // The same conflict by rule 2 is accepted in a list.
+    let job = case(0, &[0, 5, 0, 0, 0, 0, 0, 0]).with_lags(&[0, 1, -1]);
+    let list = [2, 0, 1, 0, 0, 2, 0, 1, 0, 1, 2, 0, 13, 1, 0, 4207];
+    assert_eq!(job.read(&list).0, ReadAnswer::Conflict);
+}
+
+#[test]
+fn extreme_words_are_harmless() {
+    let job = case(0, &K1_WINDOWS);
+    for place in 0..K1_LIST.len() {
+        for word in [i32::MIN, i32::MIN + 1, -1, i32::MAX] {
+            let mut list = K1_LIST;
+            list[place] = word;
+            // "h ≤ −1" or weaker is enough for the rule.
+            let enough = place == 11 && word >= -1;
+            let accepted = job.read(&list).0 == ReadAnswer::Open;
+            assert_eq!(accepted, enough, "word {word} at {place}");
+        }
+    }
+    let word = i32::MIN;
+    let refusal = Refusal {
+        number: 1,
+        place: 0,
+    };
+    let answer = plan(
+        word,
+        word,
+        word,
+        word,
+        &mut [word; 4],
+        &[word; 3],
+        &mut [word; 3],
+    );
+    assert_eq!(answer, PlanAnswer::Refused(refusal));
+}
+
+#[test]
+fn many_premises() {
+    let job = case(0, &K1_WINDOWS);
+    let list = |count: usize| {
+        let mut list = vec![10, 1, 1, 1, 5, count as i32, 0, 1, 5];
+        list.extend([1, 4, -4].repeat(count - 1));
+        list.extend([7 + 3 * count as i32, 1, 0, 4207]);
+        list
+    };
+    assert_eq!(job.read(&list(256)), (ReadAnswer::Open, K1_LEFT.to_vec()));
+    assert_eq!(job.read(&list(257)).0, refused(13, 0));
+}
+
+#[test]
+fn longest_creep() {
+    let mut windows = [0, 20_000, 0, 0, 0, 20_000, 0, 0];
+    let mut buffer = vec![0; 1_000_000];
+    let lags = [0, 1, 0, 1, 0, -1];
+    let answer = plan(20_000, 0, 10, 0, &mut windows, &lags, &mut buffer);
+    assert!(matches!(
+        answer,
+        PlanAnswer::Conflict(Tally { rounds: 10_001, .. })
+    ));
+}

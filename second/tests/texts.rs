@@ -1,0 +1,143 @@
+//! The text program: forms of text, and the lines it prints.
+
+use std::io::{self, Read};
+
+use second::text::{answer_input, answer_text};
+
+const MALFORMED: &str = "refused 20 0\n";
+
+fn answer(text: &str) -> String {
+    answer_text(text.as_bytes())
+}
+
+#[test]
+fn k1_as_text() {
+    let text = "100 0 10 0 2 0\n5 40 6 6\n0 30 -4 -4\n";
+    let lines = "settled 1 2\n0 5 40 6 6\n1 5 30 -4 -4\n";
+    assert_eq!(answer(text), lines);
+}
+
+#[test]
+fn blanks_of_all_kinds() {
+    let text = " \t\r\n100\r\n0\t10   0 2 0 5 40\n\n6 6 0 30 -4 -4";
+    assert_eq!(answer(text), "settled 1 2\n0 5 40 6 6\n1 5 30 -4 -4\n");
+    assert_eq!(answer("100 0 10 0 0 0"), "settled 0 1\n");
+    assert_eq!(answer("100 0 10 0 0 0\u{b}"), MALFORMED);
+    assert_eq!(answer("100 0 10 0 0 0\u{c}"), MALFORMED);
+    assert_eq!(answer("100 0 10 0 0 0\0"), MALFORMED);
+    assert_eq!(answer("100 0 10 0 0 0\u{a0}"), MALFORMED);
+}
+
+#[test]
+fn forms_of_numbers() {
+    assert_eq!(answer("000100 -0 0010 -000 0 0"), "settled 0 1\n");
+    for wrong in [
+        "+5", "-", "- 5", "1.0", "--5", "5-", "5-3", "0x1", "1e2", "1,", "a",
+    ] {
+        assert_eq!(
+            answer(&format!("100 0 10 {wrong} 0 0")),
+            MALFORMED,
+            "{wrong}"
+        );
+    }
+    let zeros = "0".repeat(100_000);
+    assert_eq!(
+        answer(&format!("{zeros}100 0 10 -{zeros} 0 0")),
+        "settled 0 1\n"
+    );
+}
+
+#[test]
+fn numbers_outside_32_bits() {
+    assert_eq!(answer("2147483647 0 10 0 0 0"), "refused 1 0\n");
+    assert_eq!(answer("-2147483648 0 10 0 0 0"), "refused 1 0\n");
+    assert_eq!(answer("2147483648 0 10 0 0 0"), MALFORMED);
+    assert_eq!(answer("-2147483649 0 10 0 0 0"), MALFORMED);
+    let nines = "9".repeat(100_000);
+    assert_eq!(answer(&format!("{nines} 0 10 0 0 0")), MALFORMED);
+}
+
+#[test]
+fn counts_of_numbers() {
+    for wrong in ["", " \n", "100", "100 0 10 0 0", "100 0 10 0 0 0 1"] {
+        assert_eq!(answer(wrong), MALFORMED, "{wrong}");
+    }
+    for wrong in [
+        "65 0",
+        "-1 0",
+        "0 257",
+        "0 -1",
+        "1 0",
+        "2147483647 2147483647",
+    ] {
+        assert_eq!(answer(&format!("100 0 10 0 {wrong}")), MALFORMED, "{wrong}");
+    }
+    let too_many = format!("100 0 10 0 65 0 {}", "0 0 0 0 ".repeat(65));
+    assert_eq!(answer(&too_many), MALFORMED);
+}
+
+#[test]
+fn malformed_before_all_questions() {
+    assert_eq!(answer("20001 5 4 0 0 0"), "refused 1 0\n");
+    assert_eq!(answer("20001 5 4 0 0 0 x"), MALFORMED);
+    assert_eq!(answer("20001 5 4 0 65 0"), MALFORMED);
+}
+
+#[test]
+fn refusals_and_places() {
+    assert_eq!(answer("100 0 10 11 0 0"), "refused 3 0\n");
+    assert_eq!(answer("100 0 10 0 2 0 0 30 -1 1 5 4 2 2"), "refused 5 1\n");
+    assert_eq!(
+        answer("100 0 10 0 2 2 0 1 0 0 0 1 0 0  0 1 3  1 1 3"),
+        "refused 9 1\n"
+    );
+}
+
+#[test]
+fn the_largest_job() {
+    let events = "0 100 0 0\n".repeat(64);
+    let lags = "0 1 20000\n".repeat(256);
+    let text = format!("100 0 10 0 64 256\n{events}{lags}");
+    let lines = answer(&text);
+    assert!(lines.starts_with("settled 0 1\n0 0 100 0 0\n"));
+    assert!(lines.ends_with("\n63 0 100 0 0\n"));
+    assert_eq!(lines.lines().count(), 65);
+}
+
+#[test]
+fn windows_after_conflict_and_stopped() {
+    // Two lags at odds: two slips in the first round, then four in each, of 10
+    // words; 1,599 of them and the trailer fit into 16,000 words.
+    let text = "20000 0 10 0 2 2  0 20000 0 0  0 20000 0 0  0 1 0  1 0 -1";
+    assert_eq!(
+        answer(text),
+        "stopped 1599 401\n0 400 19600 0 0\n1 399 19600 0 0\n"
+    );
+    assert_eq!(
+        answer("100 0 10 3 1 0 0 30 -4 -4"),
+        "conflict 1 1\n0 0 30 -4 -4\n"
+    );
+}
+
+/// Gives its text one byte at a time.
+struct Drip<'a>(&'a [u8]);
+
+impl Read for Drip<'_> {
+    fn read(&mut self, out: &mut [u8]) -> io::Result<usize> {
+        let Some((first, rest)) = self.0.split_first() else {
+            return Ok(0);
+        };
+        out[0] = *first;
+        self.0 = rest;
+        Ok(1)
+    }
+}
+
+#[test]
+fn pieces_of_any_size() {
+    let text = b"100 0 10 0 2 0\n5 40 6 6\n0 30 -4 -4";
+    let lines = answer_input(&mut Drip(text)).expect("reading from memory");
+    assert_eq!(lines.as_bytes(), answer_text(text).as_bytes());
+    let bad = answer_input(&mut Drip(b"100 0 10 0 0 0 -")).expect("reading from memory");
+    assert_eq!(bad, MALFORMED);
+}
