@@ -1,0 +1,130 @@
+-- Demand 3 in one piece, to be read without any proof: what the reader's acceptance means, whoever wrote the list, and that the reader accepts what the planner writes.
+-- Read specs/ first; of proofs/ only two definitions are used, both in Words: `log-words` (the slips' words in turn) and `last-begins` (where the last one begins). The proof is in DemandProof.
+-- Assumes nothing.
+use mathlib.Core.Path.{_≡_}
+use mathlib.Core.List.{List, [], _∷_, _++_}
+use Prim.Native.Nat.{ℕ, zero, suc, _+_, _≤_}
+use lib.Dec.{T}
+use lib.IntN.{ℤ, pos, negsuc, natAbs}
+use lib.ListN.{length, take}
+use lib.Signed.{_≤ℤ_}
+use Rattle.model.specs.Job.{windows, widest, Job, job, Schedule, value, Inside, Legal}
+use Rattle.model.specs.Slips.{Premise, Explanation, slip-length, trailer}
+use Rattle.model.specs.Rounds.{Verdict, settled, conflict, stopped, still-open}
+use Rattle.model.specs.Questions.{pass, questions}
+use Rattle.model.specs.Planner.{refused, done, Outcome, plan}
+use Rattle.model.specs.Reader.{premise-count, slip-at, counted, names, is-conflict, accepted, check}
+use Rattle.model.proofs.Words.{log-words, last-begins}
+
+-- ---- what a plan has
+
+-- A plan has a fact or conclusion of kinds 1 to 4 if the minute or amount that it gives the event meets it; no plan has kind 0, and there are no other kinds.
+abbrev pub Has : Schedule → ℕ → ℤ → ℤ → Type 0
+Has p y (pos zero) v = ⊥
+Has p y (pos (suc zero)) v = v ≤ℤ p .time y
+Has p y (pos (suc (suc zero))) v = p .time y ≤ℤ v
+Has p y (pos (suc (suc (suc zero)))) v = v ≤ℤ p .height y
+Has p y (pos (suc (suc (suc (suc zero))))) v = p .height y ≤ℤ v
+Has p y (pos (suc (suc (suc (suc (suc n)))))) v = ⊥
+Has p y (negsuc n) v = ⊥
+
+-- So it is for every one of a list.
+abbrev pub Each : {A : Type 0} → (A → Type 0) → List A → Type 0
+Each P [] = Unit {0}
+Each P (a ∷ rest) = P a × Each P rest
+
+abbrev pub HasPremises : Schedule → Explanation → Type 0
+HasPremises p x = Each (λ (f : Premise). Has p (natAbs (f .event)) (f .kind) (f .value)) (x .premises)
+
+abbrev pub HasConclusion : Schedule → Explanation → Type 0
+HasConclusion p x = Has p (natAbs (x .target)) (x .kind) (x .value)
+
+-- ---- the slips of a list of words
+
+-- k slips, read one after another from word i on.
+unfoldable pub slips-from : List ℤ → ℕ → ℕ → List Explanation
+slips-from list zero i = []
+slips-from list (suc k) i = slip-at list i ∷ slips-from list k (i + slip-length (premise-count list i))
+
+-- The slips that a list counts: as many as the trailer, its last three words, says in its first word.
+abbrev pub slips-of : List ℤ → List Explanation
+slips-of list = slips-from list (natAbs (counted list)) 0
+
+-- Slips as a list of words: the slips in turn, then the trailer: their number, where the last one begins (0 if none), 4207.
+abbrev pub listed : List Explanation → List ℤ
+listed xs = log-words xs ++ trailer (length xs) (last-begins 0 0 xs)
+
+-- Conflict exactly when the last slip counted has kind 0, else open.
+abbrev pub said : List Explanation → Verdict
+said [] = still-open
+said (x ∷ []) = accepted (is-conflict x)
+said (x ∷ (y ∷ xs)) = said (y ∷ xs)
+
+-- The reader's word for the planner's: conflict exactly when the planner says so.
+abbrev pub echoed : Verdict → Verdict
+echoed settled = still-open
+echoed conflict = conflict
+echoed stopped = still-open
+echoed still-open = still-open
+
+-- ---- the demand
+
+-- H, Lmin, Lmax, Q, the window table sent in, the lag table.
+module _ (h low high q : ℤ) (table lag-words : List ℤ) where
+  abbrev pub planner : List ℤ → Outcome
+  planner buffer = plan h low high q table lag-words buffer
+
+  abbrev pub reader : List ℤ → Outcome
+  reader list = check h low high q table lag-words list
+
+  abbrev pub called : Job
+  called = job h low high q table lag-words
+
+  -- A legal plan of the job: in the windows sent in, with all lags and both limits kept at every moment.
+  abbrev pub LegalPlan : Schedule → Type 0
+  LegalPlan p = Legal called (windows table) p
+
+  -- A legal plan of the same job with the windows opened: 0..H; 1..9,999, −9,999..−1 or 0 for a delivery, a pull or a neutral event.
+  abbrev pub OpenPlan : Schedule → Type 0
+  OpenPlan p = Legal called (widest h (windows table)) p
+
+  -- A list that the reader accepts, saying v.
+  pub record Acceptance (list : List ℤ) (v : Verdict) : Type 0 where
+    -- It is its slips and their trailer, word for word.
+    pub words : list ≡ listed (slips-of list)
+    -- Each slip's subject, target and fact events exist, its fact kinds are 1 to 4, its kind is its rule's own or 0 with value 0.
+    pub named : Each (λ (x : Explanation). T (names called x)) (slips-of list)
+    -- Every legal plan lies inside the windows that the reader leaves.
+    pub keeps : (p : Schedule) → LegalPlan p → Inside (called .events) (windows (reader list .table)) (value p)
+    -- If the list has a conflict slip, there is no legal plan.
+    pub none : Each (λ (x : Explanation). x .kind ≡ pos 0 → (p : Schedule) → LegalPlan p → ⊥) (slips-of list)
+    -- The reader says conflict exactly when the last slip counted is one; and then there is no legal plan.
+    pub says : v ≡ said (slips-of list)
+    pub clash : v ≡ conflict → (p : Schedule) → LegalPlan p → ⊥
+    -- Each slip stands alone: in the same job with opened windows, every legal plan that has its facts has its conclusion (so none has the facts of a conflict slip).
+    pub alone : Each (λ (x : Explanation). (p : Schedule) → OpenPlan p → HasPremises p x → HasConclusion p x) (slips-of list)
+    -- The list is left as it was.
+    pub unchanged : reader list .buffer ≡ list
+
+  -- What the planner wrote, len words saying v, the reader accepts: it says conflict exactly when the planner did, and leaves every word of the window table as the planner left it.
+  pub record Replay (buffer : List ℤ) (v : Verdict) (len : ℕ) : Type 0 where
+    pub fits : len ≤ length buffer
+    pub reply : reader (take len (planner buffer .buffer)) .reply ≡ done (echoed v) 0 0 0
+    pub same-table : reader (take len (planner buffer .buffer)) .table ≡ planner buffer .table
+
+  -- A refusal changes no lent word.
+  pub record Untouched (buffer : List ℤ) (o : Outcome) : Type 0 where
+    pub same-table : o .table ≡ table
+    pub same-buffer : o .buffer ≡ buffer
+
+  -- Demand 3, with demand 1's word on refused calls. A reader that accepts everything, or weighs a fact or a rule wrongly, breaks `sound`; one that refuses everything, or loses a narrowing, breaks `complete`; and so does a planner
+  -- that narrows too far, writes a wrong fact or half a slip, or says conflict where its list does not. That it does all that the rules give is demand 2: `plan` itself.
+  pub record Demand3 : Type 0 where
+    -- Whatever words the list holds and whoever wrote them.
+    pub sound : (list : List ℤ) (v : Verdict) (slips rounds len : ℕ) → reader list .reply ≡ done v slips rounds len → Acceptance list v
+    -- For every job that the planner takes, whatever slip room it has and whether it answers settled, conflict or stopped.
+    pub complete : (buffer : List ℤ) (v : Verdict) (slips rounds len : ℕ) → planner buffer .reply ≡ done v slips rounds len → Replay buffer v len
+    -- It takes every job that questions 1 to 11 let pass.
+    pub takes : (buffer : List ℤ) → questions called table (length buffer) ≡ pass → (v : Verdict) × (slips : ℕ) × (rounds : ℕ) × (len : ℕ) × (planner buffer .reply ≡ done v slips rounds len)
+    pub reader-refuses : (list : List ℤ) (number place : ℕ) → reader list .reply ≡ refused number place → Untouched list (reader list)
+    pub planner-refuses : (buffer : List ℤ) (number place : ℕ) → planner buffer .reply ≡ refused number place → Untouched buffer (planner buffer)

@@ -1,0 +1,292 @@
+-- Facts suffice: a slip that the planner writes on standing windows passes questions 14, 15 and 16. Its facts are true there, and the rule gives the same or more on the widest windows narrowed by them.
+-- Assumes nothing.
+use mathlib.Core.Path.{_≡_, refl, sym, ap, subst, _∙_}
+use mathlib.Core.Bool.{Bool, true, false, not, _&&_}
+use Prim.Native.Nat.{ℕ, _≤_, _<_}
+use native.Mathlib.Omega.{arith}
+use lib.Dec.{T, eqb, eqb→eq, eqb-refl, not-T}
+use lib.IntN.{ℤ, pos, negℤ, _+ℤ_, _-ℤ_}
+use lib.Signed.{leZ, ltZ, _<ℤ_}
+use Rattle.integers.specs.Range.{eqZ}
+use Rattle.integers.proofs.Linear.{ints, add-law}
+use Rattle.integers.proofs.Tests.{is-true, is-false, and-in}
+use Rattle.model.specs.Job.{End, t-min, t-max, h-min, h-max, opposite, meets, Windows, widest, Reservoir, Job, lags, lag-a, lag-b, lag-d}
+use Rattle.model.specs.Levels.{Switch, place, most, side-value, side-end, side, side-reservoir}
+use Rattle.model.specs.Rules.{Finding, clash, bound, given-if, time-rule, targeted, Family, level, time, height, Rule, lag-upper, lag-lower, reservoir, switch, rule, family-rule, family-end, side-finding, finding, own-end, Effect, idle, narrows, fails, effect, failed}
+use Rattle.model.specs.Facts.{cites, says, latest, quotes-top, drops, family-cites, family-says, lag-cites, quotes, quoted}
+use Rattle.model.specs.Slips.{number, premise-list, concluded-kind, concluded-value, explanation}
+use Rattle.model.specs.Questions.{is-event}
+use Rattle.model.specs.Reader.{subjects, target-fits, has-bound, kind-fits, premises-fit, names, all-true, narrowed, as-strict, gives}
+use Rattle.model.proofs.Standing.{Sane, Standing}
+use Rattle.model.proofs.Order.{meets-refl, meets-trans, opposite-meets, narrowed-in, inside-narrowed, narrowed-true}
+use Rattle.model.proofs.Levels.{most-weaker, signed-within}
+use Rattle.model.proofs.Time.{time-waits, waits-most, below-time, time-never-fails}
+use Rattle.model.proofs.Sides.{side-inside, side-times, side-heights, side-signed}
+use Rattle.model.proofs.Table.{narrows-bound}
+use Rattle.model.proofs.Effects.{fails-past, past-fails, effect-given, across, side-effect, effect-side, failed-side, strict-side}
+use Rattle.model.proofs.Premises.{Keeps, list-fits, list-true, true-list, event-fits}
+use Rattle.model.proofs.Support.{Opened, Grounds, cites-true, amount-kept, most-backed, opened-wider, targets-backed, needs-backed}
+
+-- ---- effects
+
+-- What question 16 asks of a finding, by the effect that the slip records.
+abbrev agrees : End → Windows → ℕ → Effect → Finding → Bool
+agrees k X y idle f = false
+agrees k X y (narrows v) f = as-strict k v f
+agrees k X y fails f = failed (effect k X y f)
+
+-- A bound on X as strict as that on W: it narrows as much, and it passes the target's opposite end if that is kept.
+bound-agrees : (k : End) (W X : Windows) (y : ℕ) (a b : ℤ) (x : Effect) → T (meets k a b) → (x ≡ fails → T (meets (opposite k) (W y (opposite k)) (X y (opposite k)))) → x ≡ effect k W y (bound a) → (x ≡ idle → ⊥) → T (agrees k X y x (bound b))
+bound-agrees k W X y a b idle h o e i = absurd (i refl)
+bound-agrees k W X y a b (narrows v) h o e i =
+    let p : bound a ≡ bound v = narrows-bound k W y (bound a) v (sym e) .0 in
+    let q : a ≡ v = cc in
+    subst (λ u. T (meets k u b)) q h
+bound-agrees k W X y a b fails h o e i =
+    let q = opposite k in
+    let p = fails-past k W y a e in
+    past-fails k X y b
+    (is-false (meets q (X y q) b)
+    (λ t. subst T p
+    (meets-trans q (W y q) b a (meets-trans q (W y q) (X y q) b (o refl) t) (subst T (sym (opposite-meets k b a)) h))))
+
+-- ---- the families, at general windows
+
+-- The targets of a family at e.
+abbrev aims : Family → ℕ → ℕ → Bool
+aims level e y = eqb y e
+aims time e y = eqb y e
+aims height e y = true
+
+-- Only a target's own amount is left out, and none of a conflict.
+drops-other : (x : Effect) (y z : ℕ) → (z ≡ y → ⊥) → T (not (drops height x y z))
+drops-other idle y z d = tt
+drops-other (narrows v) y z d = not-T (eqb z y) (λ t. d (eqb→eq z y t))
+drops-other fails y z d = tt
+
+drops-none : (x : Effect) (y z : ℕ) → x ≡ fails → T (not (drops height x y z))
+drops-none x y z e = rw e tt
+
+-- Question 15.
+family-true : (f : Family) (s : Switch) (n : ℕ) (W : Windows) (e y : ℕ) (x : Effect) → Keeps n (family-cites f s n W e y x) (family-says f s n W e y x) W
+family-true level s n W e y x = cites-true s n W e (W e t-max) true (drops level x y) (λ _. omega ints)
+family-true time s n W e y x = cites-true s n W e (latest time (W e t-max) x) false (drops time x y) (λ t. absurd t)
+family-true height s n W e y x = cites-true s n W e (W e t-max) true (drops height x y) (λ _. omega ints)
+
+module _ (s : Switch) (n : ℕ) (c : Reservoir) {W X : Windows} (o : Opened n W X) (e : ℕ) (l : e < n) (y : ℕ) (m : y < n) where
+  -- Question 16.
+  family-agrees : (f : Family) (x : Effect) → T (aims f e y) → x ≡ effect (family-end f) W y (family-rule f s n c W e y) → (x ≡ idle → ⊥) → Keeps n (family-cites f s n W e y x) (family-says f s n W e y x) X → T (agrees (family-end f) X y x (family-rule f s n c X e y))
+  family-agrees level x d q i k =
+      let r = effect-given t-min W y (ltZ (most s n c W e) (c .min-level)) clash x q i in
+      let g : Grounds s n W X e (W e t-max) (X e t-max) true (drops level x y) = record { opened = o; subject = l; kept = k; to-top = λ _. refl; to-bound = λ t. absurd t } in
+      let a = most-backed g c (λ z b. tt) in
+      let b = r .0 in
+      let h : most s n c X e <ℤ c .min-level = omega ints in
+      rw (r .1, is-true (ltZ (most s n c X e) (c .min-level)) (h .lt)) tt
+  family-agrees time idle d q i k = absurd (i refl)
+  family-agrees time (narrows v) d q i k =
+      let w = time-waits s n c W e v (narrows-bound t-min W y (time-rule s n c W e) v (sym q) .0) in
+      let g : Grounds s n W X e (v -ℤ pos 1) (v -ℤ pos 1) false (drops time (narrows v) y) = record { opened = o; subject = l; kept = k; to-top = λ t. absurd t; to-bound = λ _. refl } in
+      let a = most-backed g c (λ z b. tt) in
+      let b = waits-most s n c W e v w in
+      let h = most-weaker s c e (opened-wider o e l) in
+      let f = w .below in
+      let r = below-time s n c X e v (omega ints) (omega ints) in
+      rw (r .1) (r .2 .le)
+  family-agrees time fails d q i k = absurd (time-never-fails s n c W e (sym (subst (λ z. fails ≡ effect t-min W z (time-rule s n c W e)) (eqb→eq y e d) q)))
+  family-agrees height x d q i k =
+      let r = effect-given h-min W y (targeted (place s W e (W e t-min) (W e t-max) y) (W y h-max)) (bound (c .min-level -ℤ (most s n c W e -ℤ W y h-max))) x q i in
+      let g : Grounds s n W X e (W e t-max) (X e t-max) true (drops height x y) = record { opened = o; subject = l; kept = k; to-top = λ _. refl; to-bound = λ t. absurd t } in
+      let t = targets-backed g c y m (r .0) in
+      let a = needs-backed g c y m (r .0) (λ z b. drops-other x y z) in
+      rw (is-true (targeted (place s X e (X e t-min) (X e t-max) y) (X y h-max)) t)
+      (bound-agrees h-min W X y (c .min-level -ℤ (most s n c W e -ℤ W y h-max)) (c .min-level -ℤ (most s n c X e -ℤ X y h-max)) x (a .le) (λ p. amount-kept g y m (drops-none x y y p) (r .0) .le) (r .1) i)
+
+-- ---- sides
+
+-- Ends quoted through a side.
+module _ (n : ℕ) (c : ℕ → End → Bool) (v : ℕ → End → ℤ) (x : Windows) where
+  keeps-in : (m : Bool) → Keeps n (λ z k. c z (side-end m k)) (λ z k. side-value m k (v z (side-end m k))) x → Keeps n c v (side m x)
+  keeps-in false h y l k t = h y l k t
+  keeps-in true h y l t-min t = h y l t-min t
+  keeps-in true h y l t-max t = h y l t-max t
+  keeps-in true h y l h-min t = subst T (across true h-min (v y h-min) (x y h-max)) (h y l h-max t)
+  keeps-in true h y l h-max t = subst T (across true h-max (v y h-max) (x y h-min)) (h y l h-min t)
+
+  keeps-out : (m : Bool) → Keeps n c v (side m x) → Keeps n (λ z k. c z (side-end m k)) (λ z k. side-value m k (v z (side-end m k))) x
+  keeps-out false h y l k t = h y l k t
+  keeps-out true h y l t-min t = h y l t-min t
+  keeps-out true h y l t-max t = h y l t-max t
+  keeps-out true h y l h-min t = subst T (sym (across true h-max (v y h-max) (x y h-min))) (h y l h-max t)
+  keeps-out true h y l h-max t = subst T (sym (across true h-min (v y h-min) (x y h-max))) (h y l h-min t)
+
+agrees-side : (m : Bool) (k : End) (X : Windows) (y : ℕ) (x : Effect) (f : Finding) → agrees (side-end m k) X y (side-effect m k x) (side-finding m k f) ≡ agrees k (side m X) y x f
+agrees-side m k X y idle f = refl
+agrees-side m k X y (narrows v) f = strict-side m k v f
+agrees-side m k X y fails f = ap failed (effect-side m k X y f) ∙ failed-side m k (effect k (side m X) y f)
+
+-- What is quoted does not depend on the side that the effect is told on.
+latest-side : (f : Family) (m : Bool) (t : ℤ) (x : Effect) → latest f t (side-effect m (family-end f) x) ≡ latest f t x
+latest-side level m t x = refl
+latest-side time m t idle = refl
+latest-side time false t (narrows v) = refl
+latest-side time true t (narrows v) = refl
+latest-side time m t fails = refl
+latest-side height m t x = refl
+
+drops-side : (f : Family) (m : Bool) (x : Effect) (y : ℕ) → drops f (side-effect m (family-end f) x) y ≡ drops f x y
+drops-side level m x y = refl
+drops-side time m x y = refl
+drops-side height m idle y = refl
+drops-side height m (narrows v) y = refl
+drops-side height m fails y = refl
+
+quoted-side : (f : Family) (m : Bool) (s : Switch) (n : ℕ) (W X : Windows) (e y : ℕ) (x : Effect) →
+    Keeps n (family-cites f s n W e y (side-effect m (family-end f) x)) (family-says f s n W e y (side-effect m (family-end f) x)) X →
+    Keeps n (family-cites f s n W e y x) (family-says f s n W e y x) X
+quoted-side f m s n W X e y x h =
+    subst (λ d. Keeps n (cites s n W e (W e t-min) (latest f (W e t-max) x) (quotes-top f) d) (says s n W e (W e t-min) (latest f (W e t-max) x) (quotes-top f) d) X) (drops-side f m x y)
+    (subst (λ t. Keeps n (cites s n W e (W e t-min) t (quotes-top f) (drops f (side-effect m (family-end f) x) y)) (says s n W e (W e t-min) t (quotes-top f) (drops f (side-effect m (family-end f) x) y)) X) (latest-side f m (W e t-max) x) h)
+
+side-opened : (m : Bool) {n : ℕ} {W X : Windows} → Opened n W X → Opened n (side m W) (side m X)
+side-opened m {n} {W} o =
+    record {
+      wider = side-inside m (o .wider);
+      times = side-times m n W (o .times);
+      heights = side-heights m n W (o .heights);
+      signs = side-signed m (o .signs);
+    }
+
+-- Rules 3 to 14: a side's family.
+module _ (m : Bool) (s : Switch) (f : Family) (n : ℕ) (c : Reservoir) {W X : Windows} (o : Opened n W X) (e : ℕ) (l : e < n) (y : ℕ) (b : y < n) (d : T (aims f e y)) where
+  side-agrees : (x : Effect) →
+      x ≡ effect (side-end m (family-end f)) W y (side-finding m (family-end f) (family-rule f s n c (side m W) e y)) →
+      (x ≡ idle → ⊥) →
+      Keeps n (λ z k. family-cites f s n (side m W) e y x z (side-end m k)) (λ z k. side-value m k (family-says f s n (side m W) e y x z (side-end m k))) X →
+      T (agrees (side-end m (family-end f)) X y x (side-finding m (family-end f) (family-rule f s n c (side m X) e y)))
+  side-agrees x q i k =
+      let t = family-end f in
+      let g = family-rule f s n c (side m W) e y in
+      let z = effect t (side m W) y g in
+      let p : x ≡ side-effect m t z = q ∙ effect-side m t W y g in
+      let h = subst (λ x. Keeps n (family-cites f s n (side m W) e y x) (family-says f s n (side m W) e y x) (side m X)) p (keeps-in n (family-cites f s n (side m W) e y x) (family-says f s n (side m W) e y x) X m k) in
+      let a = family-agrees s n c (side-opened m o) e l y b f z d refl (λ r. i (p ∙ ap (side-effect m t) r)) (quoted-side f m s n (side m W) (side m X) e y z h) in
+      subst (λ x. T (agrees (side-end m t) X y x (side-finding m t (family-rule f s n c (side m X) e y)))) (sym p)
+      (subst T (sym (agrees-side m t X y z (family-rule f s n c (side m X) e y))) a)
+
+-- ---- lags
+
+-- The ends that a lag's slip quotes are kept.
+lag-kept : (u v : Bool) (j : Job) (W X : Windows) (g : ℕ) → Sane j → g < lags j → Keeps (j .events) (lag-cites u v j g) W X →
+    (T u → T (meets t-min (W (lag-a j g) t-min) (X (lag-a j g) t-min))) × (T v → T (meets t-max (W (lag-b j g) t-max) (X (lag-b j g) t-max)))
+lag-kept u v j W X g sane l k = (
+  λ t. k (lag-a j g) (sane .real-a g l) t-min (and-in u (eqb (lag-a j g) (lag-a j g)) t (eqb-refl (lag-a j g))),
+  λ t. k (lag-b j g) (sane .real-b g l) t-max (and-in v (eqb (lag-b j g) (lag-b j g)) t (eqb-refl (lag-b j g))),
+)
+
+later-by : (a b d : ℤ) → T (leZ a b) → T (leZ (a +ℤ d) (b +ℤ d))
+later-by a b d t = omega (ints, add-law a d, add-law b d)
+
+earlier-by : (a b d : ℤ) → T (leZ a b) → T (leZ (a -ℤ d) (b -ℤ d))
+earlier-by a b d t = later-by a b (negℤ d) t
+
+-- ---- all rules
+
+fits-aims : (m b : Bool) (f : Family) (j : Job) (e y : ℕ) → T (target-fits (reservoir m b f) j e y) → T (aims f e y)
+fits-aims m b level j e y t = t
+fits-aims m b time j e y t = t
+fits-aims m b height j e y t = tt
+
+-- Question 15.
+rule-true : (r : Rule) (j : Job) (W : Windows) (e y : ℕ) (x : Effect) → Keeps (j .events) (quotes r j W e y x) (quoted r j W e y x) W
+unfolding quotes quoted
+rule-true lag-upper j W e y x = λ z l k t. meets-refl k (W z k)
+rule-true lag-lower j W e y x = λ z l k t. meets-refl k (W z k)
+rule-true (reservoir m b f) j W e y x =
+    keeps-out (j .events) (family-cites f (switch b) (j .events) (side m W) e y x) (family-says f (switch b) (j .events) (side m W) e y x) W m (family-true f (switch b) (j .events) (side m W) e y x)
+
+-- Question 16.
+rule-agrees : (r : Rule) (j : Job) (W X : Windows) (e y : ℕ) (x : Effect) → Sane j → Opened (j .events) W X → e < subjects r j → y < j .events → T (target-fits r j e y) →
+    x ≡ effect (own-end r) W y (finding r j W e y) → (x ≡ idle → ⊥) → Keeps (j .events) (quotes r j W e y x) (quoted r j W e y x) X → T (agrees (own-end r) X y x (finding r j X e y))
+unfolding quotes quoted finding
+rule-agrees lag-upper j W X e y x sane o l b d q i k =
+    let h = lag-kept (failed x) true j W X e sane l k in
+    bound-agrees t-max W X y (W (lag-b j e) t-max +ℤ lag-d j e) (X (lag-b j e) t-max +ℤ lag-d j e) x
+    (later-by (X (lag-b j e) t-max) (W (lag-b j e) t-max) (lag-d j e) (h .1 tt))
+    (λ p. rw (eqb→eq y (lag-a j e) d) (h .0 (rw p tt)))
+    q
+    i
+rule-agrees lag-lower j W X e y x sane o l b d q i k =
+    let h = lag-kept true (failed x) j W X e sane l k in
+    bound-agrees t-min W X y (W (lag-a j e) t-min -ℤ lag-d j e) (X (lag-a j e) t-min -ℤ lag-d j e) x
+    (earlier-by (W (lag-a j e) t-min) (X (lag-a j e) t-min) (lag-d j e) (h .0 tt))
+    (λ p. rw (eqb→eq y (lag-b j e) d) (h .1 (rw p tt)))
+    q
+    i
+rule-agrees (reservoir m w f) j W X e y x sane o l b d q i k =
+    side-agrees m (switch w) f (j .events) (side-reservoir m (j .reservoir)) o e l y b (fits-aims m w f j e y d) x q i k
+
+-- ---- the slip
+
+-- A bound's kind is not the conflict's.
+no-conflict : (k : End) → eqZ (pos (number k)) (pos 0) ≡ false
+no-conflict t-min = refl
+no-conflict t-max = refl
+no-conflict h-min = refl
+no-conflict h-max = refl
+
+-- A level rule gives no bound.
+level-unbound : (m b : Bool) (v : ℤ) → side-finding m t-min (given-if b clash) ≡ bound v → ⊥
+level-unbound m true v e = let z : _≡_ {A = ℕ} 0 1 = cc in omega arith
+level-unbound m false v e = let z : _≡_ {A = ℕ} 0 1 = cc in omega arith
+
+bound-fits : (r : Rule) (j : Job) (W : Windows) (e y : ℕ) (v : ℤ) → finding r j W e y ≡ bound v → T (has-bound r)
+unfolding finding
+bound-fits lag-upper j W e y v q = tt
+bound-fits lag-lower j W e y v q = tt
+bound-fits (reservoir m b level) j W e y v q =
+    level-unbound m (ltZ (most (switch b) (j .events) (side-reservoir m (j .reservoir)) (side m W) e) (side-reservoir m (j .reservoir) .min-level)) v q
+bound-fits (reservoir m b time) j W e y v q = tt
+bound-fits (reservoir m b height) j W e y v q = tt
+
+-- Question 14 of the kind.
+kind-concluded : (r : Rule) (j : Job) (W : Windows) (e y : ℕ) (x : Effect) → x ≡ effect (own-end r) W y (finding r j W e y) → T (kind-fits r (pos (concluded-kind r x)) (concluded-value x))
+kind-concluded r j W e y idle q = tt
+kind-concluded r j W e y (narrows v) q =
+    rw (no-conflict (own-end r))
+    (and-in (has-bound r) (eqb (number (own-end r)) (number (own-end r))) (bound-fits r j W e y v (narrows-bound (own-end r) W y (finding r j W e y) v (sym q) .0)) (eqb-refl (number (own-end r))))
+kind-concluded r j W e y fails q = tt
+
+-- Question 16 of the slip.
+gives-agrees : (r : ℕ) (j : Job) (W X : Windows) (e y : ℕ) (x : Effect) → T (agrees (own-end (rule r)) X y x (finding (rule r) j X e y)) → T (gives j X (explanation r j W e y x))
+unfolding gives
+gives-agrees r j W X e y idle t = absurd t
+gives-agrees r j W X e y (narrows v) t = rw (no-conflict (own-end (rule r))) t
+gives-agrees r j W X e y fails t = t
+
+-- A slip that the planner writes passes questions 14, 15 and 16.
+pub slip-passes : (j : Job) (sent W : Windows) (r e y : ℕ) → Sane j → Standing j sent W → 1 ≤ r → r ≤ 14 → e < subjects (rule r) j → y < j .events → T (target-fits (rule r) j e y) →
+    (x : Effect) → x ≡ effect (own-end (rule r)) W y (finding (rule r) j W e y) → (x ≡ idle → ⊥) →
+    T (names j (explanation r j W e y x))
+    × T (all-true W (explanation r j W e y x .premises))
+    × T (gives j (narrowed (widest (j .horizon) sent) (explanation r j W e y x .premises)) (explanation r j W e y x))
+unfolding names
+slip-passes j sent W r e y sane std low high l b d x q i =
+    let n = j .events in
+    let c = quotes (rule r) j W e y x in
+    let v = quoted (rule r) j W e y x in
+    let fs = premise-list n c v in
+    let wide = widest (j .horizon) sent in
+    let X = narrowed wide fs in
+    let holds : T (all-true W fs) = list-true n c v W (rule-true (rule r) j W e y x) in
+    let o : Opened n W X = record { wider = inside-narrowed (std .within) fs holds; times = std .times; heights = std .heights; signs = signed-within (narrowed-in n wide fs) } in (
+      and-in (is-event (subjects (rule r) j) (pos e) && is-event n (pos y) && premises-fit n fs && target-fits (rule r) j e y) (kind-fits (rule r) (pos (concluded-kind (rule r) x)) (concluded-value x))
+          (and-in (is-event (subjects (rule r) j) (pos e) && is-event n (pos y) && premises-fit n fs) (target-fits (rule r) j e y)
+          (and-in (is-event (subjects (rule r) j) (pos e) && is-event n (pos y)) (premises-fit n fs)
+          (and-in (is-event (subjects (rule r) j) (pos e)) (is-event n (pos y)) (event-fits (subjects (rule r) j) e l) (event-fits n y b))
+          (list-fits n c v))
+          d)
+          (kind-concluded (rule r) j W e y x q),
+      holds,
+      gives-agrees r j W X e y x (rule-agrees (rule r) j W X e y x sane o l b d q i (true-list n c v X (narrowed-true wide fs))),
+    )

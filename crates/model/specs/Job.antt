@@ -1,0 +1,129 @@
+-- Document 01, "The job": events and their windows, the job, schedules (day plans) and which of them are legal; "Tables": the window table and the lag table as words.
+use mathlib.Core.Bool.{Bool, cond}
+use mathlib.Core.List.{List}
+use Prim.Native.Nat.{ℕ, _+_, _*_, _/_, _<_}
+use lib.Dec.{T}
+use lib.IntN.{ℤ, pos, negsuc, natAbs, _+ℤ_, _-ℤ_}
+use lib.ListN.{getD, set, length}
+use lib.Signed.{leZ, ltZ, _≤ℤ_}
+use Rattle.integers.specs.Sum.{sum}
+
+-- ---- windows
+
+-- The ends of an event's windows t_min..t_max and h_min..h_max.
+pub data End : Type 0 where
+  t-min t-max h-min h-max : End
+
+abbrev pub opposite : End → End
+opposite t-min = t-max
+opposite t-max = t-min
+opposite h-min = h-max
+opposite h-max = h-min
+
+-- The windows of all events: event, end, value.
+abbrev pub Windows : Type 0
+Windows = ℕ → End → ℤ
+
+-- x keeps the bound v at an end: t ≥ v, t ≤ v, h ≥ v, h ≤ v.
+abbrev pub meets : End → ℤ → ℤ → Bool
+meets t-min v x = leZ v x
+meets t-max v x = leZ x v
+meets h-min v x = leZ v x
+meets h-max v x = leZ x v
+
+-- A delivery if h > 0, a pull if h < 0, else neutral.
+abbrev pub produces : ℤ → Bool
+produces h = ltZ (pos 0) h
+
+abbrev pub consumes : ℤ → Bool
+consumes h = ltZ h (pos 0)
+
+-- ---- tables
+
+-- The word of an event's four that holds an end.
+abbrev pub word : End → ℕ
+word t-min = 0
+word t-max = 1
+word h-min = 2
+word h-max = 3
+
+abbrev pub slot : ℕ → End → ℕ
+slot y k = 4 * y + word k
+
+-- The window table: 4 words an event, t_min, t_max, h_min, h_max.
+unfoldable pub windows : List ℤ → Windows
+windows table y k = getD table (slot y k) (pos 0)
+
+-- The reservoir (cage): limits Lmin and Lmax, opening stock Q.
+pub record Reservoir : Type 0 where
+  pub min-level : ℤ
+  pub max-level : ℤ
+  pub initial : ℤ
+
+-- The job: horizon H, the reservoir, the number of events, the lag table's words.
+pub record Job : Type 0 where
+  pub horizon : ℤ
+  pub reservoir : Reservoir
+  pub events : ℕ
+  pub lag-table : List ℤ
+
+-- The job of a call.
+abbrev pub job : ℤ → ℤ → ℤ → ℤ → List ℤ → List ℤ → Job
+job h low high q table lags =
+    record {
+      horizon = h;
+      reservoir = record { min-level = low; max-level = high; initial = q };
+      events = length table / 4;
+      lag-table = lags;
+    }
+
+-- The lag table: 3 words a lag, a, b, d: "t(a) − t(b) ≤ d".
+abbrev pub lags : Job → ℕ
+lags j = length (j .lag-table) / 3
+
+abbrev pub lag-word : Job → ℕ → ℕ → ℤ
+lag-word j g i = getD (j .lag-table) (3 * g + i) (pos 0)
+
+abbrev pub lag-a : Job → ℕ → ℕ
+lag-a j g = natAbs (lag-word j g 0)
+
+abbrev pub lag-b : Job → ℕ → ℕ
+lag-b j g = natAbs (lag-word j g 1)
+
+abbrev pub lag-d : Job → ℕ → ℤ
+lag-d j g = lag-word j g 2
+
+-- ---- schedules
+
+-- A schedule (day plan) gives every event a minute and an amount.
+pub record Schedule : Type 0 where
+  pub time : ℕ → ℤ
+  pub height : ℕ → ℤ
+
+abbrev pub value : Schedule → Windows
+value p y t-min = p .time y
+value p y t-max = p .time y
+value p y h-min = p .height y
+value p y h-max = p .height y
+
+-- x, which is a schedule's values or other windows, lies inside the windows W.
+pub record Inside (n : ℕ) (W x : Windows) : Type 0 where
+  pub inside : (y : ℕ) → y < n → (k : End) → T (meets k (W y k) (x y k))
+
+-- The stock at the moment m: Q + (sum of h(y) with t(y) ≤ m).
+unfoldable pub stock : Job → Schedule → ℤ → ℤ
+stock j p m = j .reservoir .initial +ℤ sum (j .events) (λ y. cond (leZ (p .time y) m) (p .height y) (pos 0))
+
+-- Legal in the windows W: inside them, all lags hold, and both limits at every whole moment, earlier than the first event too.
+pub record Legal (j : Job) (W : Windows) (p : Schedule) : Type 0 where
+  pub within : Inside (j .events) W (value p)
+  pub lagged : (g : ℕ) → g < lags j → (p .time (lag-a j g) -ℤ p .time (lag-b j g)) ≤ℤ lag-d j g
+  pub above-min : (m : ℤ) → j .reservoir .min-level ≤ℤ stock j p m
+  pub below-max : (m : ℤ) → stock j p m ≤ℤ j .reservoir .max-level
+
+-- The widest windows: 0..H; 1..9,999, −9,999..−1 or 0 for a delivery, a pull or a neutral event of the windows W.
+abbrev pub widest : ℤ → Windows → Windows
+widest h W y t-min = pos 0
+widest h W y t-max = h
+widest h W y h-min = cond (produces (W y h-max)) (pos 1) (cond (consumes (W y h-max)) (negsuc 9998) (pos 0))
+widest h W y h-max = cond (produces (W y h-max)) (pos 9999) (cond (consumes (W y h-max)) (negsuc 0) (pos 0))

@@ -1,0 +1,9 @@
+pub mod Job
+pub mod Levels
+pub mod Rules
+pub mod Facts
+pub mod Slips
+pub mod Rounds
+pub mod Questions
+pub mod Planner
+pub mod Reader

@@ -1,0 +1,159 @@
+-- Document 01, "The fourteen rules", its second half: what each rule gives on windows, and what that does to the target's window.
+use mathlib.Core.Bool.{Bool, true, false, not, cond, _&&_, _||_}
+use mathlib.Core.List.{List, [], _∷_}
+use Prim.Native.Nat.{ℕ, zero, suc, _+_, _-_}
+use lib.IntN.{ℤ, pos, negℤ, _+ℤ_, _-ℤ_}
+use lib.ListN.{getD}
+use lib.Signed.{leZ, ltZ}
+use Rattle.model.specs.Job.{End, t-min, t-max, h-min, h-max, opposite, meets, Windows, Reservoir, Job, produces, consumes, lag-a, lag-b, lag-d}
+use Rattle.model.specs.Levels.{Switch, before, by, Place, sure, possible, never, place, most-in, most, sure-part, side-value, side-end, side, side-reservoir}
+
+-- What a rule gives: nothing, a conflict of the levels, or a bound on its target.
+pub data Finding : Type 0 where
+  nothing : Finding
+  clash : Finding
+  bound : ℤ → Finding
+
+abbrev pub given-if : Bool → Finding → Finding
+given-if true f = f
+given-if false f = nothing
+
+-- ---- rules 3 to 5 ("before") and 9 to 11 ("by")
+
+-- Rules 3 and 9: most before (by) e < Lmin is a conflict.
+abbrev pub level-rule : Switch → ℕ → Reservoir → Windows → ℕ → Finding
+level-rule s n c W e = given-if (ltZ (most s n c W e) (c .min-level)) clash
+
+-- The minute of e from which y counts: t_min(y) + 1 before e, t_min(y) by e. This is the 1 of rule 4.
+abbrev pub counts-from : Bool → ℤ → ℤ
+counts-from true t = t +ℤ pos 1
+counts-from false t = t
+
+-- Of two findings the one with the earlier bound.
+abbrev pub earlier : Finding → Finding → Finding
+earlier nothing g = g
+earlier clash g = g
+earlier (bound v) nothing = bound v
+earlier (bound v) clash = bound v
+earlier (bound v) (bound w) = cond (leZ v w) (bound v) (bound w)
+
+abbrev pub possible-producer : Place → ℤ → Bool
+possible-producer sure h = false
+possible-producer possible h = produces h
+possible-producer never h = false
+
+-- Lmin is reached at the delivery y, which is possibly, not surely, before (by) e: with e no later than y counts from, the level counts the sure part and just the deliveries up to y's t_min.
+abbrev pub reached-at : Switch → ℕ → Reservoir → Windows → ℕ → ℕ → Bool
+reached-at s n c W e y =
+    possible-producer (place s W e (W e t-min) (W e t-max) y) (W y h-max)
+    && leZ (c .min-level) (most-in s n c W e (W e t-min) (counts-from (s y) (W y t-min)))
+
+-- The earliest such y among the first k events. Deliveries of one t_min are added together: the one at which the sum by rising t_min first reaches Lmin, whatever the order of ties, has this t_min.
+unfoldable pub earliest : Switch → ℕ → Reservoir → Windows → ℕ → ℕ → Finding
+earliest s n c W e zero = nothing
+earliest s n c W e (suc y) =
+    earlier (earliest s n c W e y) (given-if (reached-at s n c W e y) (bound (counts-from (s y) (W y t-min))))
+
+-- Rules 4 and 10: if the surely-before (by) part with Q is below Lmin, add deliveries possibly, not surely, before (by), by rising t_min, until Lmin is reached at y; then t(e) ≥ t_min(y) + 1 (without the 1). Never reached: nothing.
+abbrev pub time-rule : Switch → ℕ → Reservoir → Windows → ℕ → Finding
+time-rule s n c W e = given-if (ltZ (sure-part s n c W e) (c .min-level)) (earliest s n c W e n)
+
+-- Rules 5 and 11: target y, a pull surely before (by) or a delivery possibly before (by).
+abbrev pub targeted : Place → ℤ → Bool
+targeted sure h = consumes h || produces h
+targeted possible h = produces h
+targeted never h = false
+
+-- h(y) ≥ Lmin − (most before (by) e − h_max(y)).
+abbrev pub height-rule : Switch → ℕ → Reservoir → Windows → ℕ → ℕ → Finding
+height-rule s n c W e y =
+    given-if
+    (targeted (place s W e (W e t-min) (W e t-max) y) (W y h-max))
+    (bound (c .min-level -ℤ (most s n c W e -ℤ W y h-max)))
+
+-- ---- the rules by number
+
+-- The level's conflict, e's time, an amount.
+pub data Family : Type 0 where
+  level time height : Family
+
+-- Rules 1 and 2; the others: the job or its mirror, before or by, the family.
+pub data Rule : Type 0 where
+  lag-upper lag-lower : Rule
+  reservoir : Bool → Bool → Family → Rule
+
+abbrev pub switch : Bool → Switch
+switch b y = b
+
+abbrev pub rules : List Rule
+rules =
+    lag-upper
+    ∷ lag-lower
+    ∷ reservoir false true level
+    ∷ reservoir false true time
+    ∷ reservoir false true height
+    ∷ reservoir true true level
+    ∷ reservoir true true time
+    ∷ reservoir true true height
+    ∷ reservoir false false level
+    ∷ reservoir false false time
+    ∷ reservoir false false height
+    ∷ reservoir true false level
+    ∷ reservoir true false time
+    ∷ reservoir true false height
+    ∷ []
+
+-- Rule r of 1..14.
+abbrev pub rule : ℕ → Rule
+rule r = getD rules (r - 1) lag-upper
+
+abbrev pub family-rule : Family → Switch → ℕ → Reservoir → Windows → ℕ → ℕ → Finding
+family-rule level s n c W e y = level-rule s n c W e
+family-rule time s n c W e y = time-rule s n c W e
+family-rule height s n c W e y = height-rule s n c W e y
+
+-- The end a family's bound is about; the level's has none, and no bound.
+abbrev pub family-end : Family → End
+family-end level = t-min
+family-end time = t-min
+family-end height = h-min
+
+-- A bound of a side read back: in the mirror an amount's is negated, a time's is not.
+abbrev pub side-finding : Bool → End → Finding → Finding
+side-finding m k nothing = nothing
+side-finding m k clash = clash
+side-finding m k (bound v) = bound (side-value m k v)
+
+-- What a rule gives for a subject (a lag number in rules 1 and 2, else the event e at hand) and a target on windows.
+-- Rule 1, lag: t(a) ≤ t_max(b) + d, target a. Rule 2: t(b) ≥ t_min(a) − d, target b.
+unfoldable pub finding : Rule → Job → Windows → ℕ → ℕ → Finding
+finding lag-upper j W g y = bound (W (lag-b j g) t-max +ℤ lag-d j g)
+finding lag-lower j W g y = bound (W (lag-a j g) t-min -ℤ lag-d j g)
+finding (reservoir m b f) j W e y =
+    side-finding m (family-end f) (family-rule f (switch b) (j .events) (side-reservoir m (j .reservoir)) (side m W) e y)
+
+-- The end a rule's bound is about.
+abbrev pub own-end : Rule → End
+own-end lag-upper = t-max
+own-end lag-lower = t-min
+own-end (reservoir m b f) = side-end m (family-end f)
+
+-- ---- what a finding does
+
+-- Nothing; the target's end becomes v; a conflict.
+pub data Effect : Type 0 where
+  idle : Effect
+  narrows : ℤ → Effect
+  fails : Effect
+
+-- A bound narrows if it is stricter than the window's end. If it would pass the opposite end it is a conflict.
+abbrev pub effect : End → Windows → ℕ → Finding → Effect
+effect k W y nothing = idle
+effect k W y clash = fails
+effect k W y (bound v) =
+    cond (meets (opposite k) (W y (opposite k)) v) (cond (meets k v (W y k)) idle (narrows v)) fails
+
+abbrev pub failed : Effect → Bool
+failed idle = false
+failed (narrows v) = false
+failed fails = true
