@@ -1,0 +1,84 @@
+-- What a finding does to its target's window, as `rules::effects` computes it.
+-- Assumes nothing.
+use mathlib.Core.Path.{_≡_, refl}
+use mathlib.Core.Bool.{Bool, true, false}
+use Prim.Native.Nat.{ℕ, zero, suc, _<_, _≤_}
+use native.Mathlib.Omega.{arith}
+use lib.IntN.{ℤ}
+use lib.Signed.{leZ}
+use Rattle.integers.specs.Range.{Within}
+use Rattle.integers.proofs.Linear.{ints}
+use Rattle.model.specs.Job.{End, t-min, t-max, h-min, h-max, Windows}
+use Rattle.model.specs.Levels.{side-end}
+use Rattle.model.specs.Rules.{Finding, nothing, clash, bound, Rule, reservoir, rule, family-end, own-end, narrows, effect}
+use Rattle.rules.specs.Values.{family-of, narrowing, span, Ranged, Did}
+use Rattle.rules.specs.declared.Effect.{Effect as Done}
+
+-- ---- the end of a rule's bound
+low-family : (m : Bool) (k : ℕ) → k < 2 → side-end m (family-end (family-of k)) ≡ t-min
+low-family true zero h = refl
+low-family false zero h = refl
+low-family true (suc zero) h = refl
+low-family false (suc zero) h = refl
+low-family m (suc (suc k)) h = absurd (omega arith)
+
+high-family : (k : ℕ) → 2 ≤ k → family-end (family-of k) ≡ h-min
+high-family zero h = absurd (omega arith)
+high-family (suc zero) h = absurd (omega arith)
+high-family (suc (suc k)) h = refl
+
+pub end-upper : (r : ℕ) → r ≡ 1 → own-end (rule r) ≡ t-max
+end-upper r p = rw p
+
+pub end-lower : (r : ℕ) → r ≡ 2 → own-end (rule r) ≡ t-min
+end-lower r p = rw p
+
+module _ (m s : Bool) (k : ℕ) {q : Rule} (is : reservoir m s (family-of k) ≡ q) where
+  pub end-time : k < 2 → own-end q ≡ t-min
+  end-time h = rw (← is) (low-family m k h)
+
+  pub end-low : 2 ≤ k → m ≡ false → own-end q ≡ h-min
+  end-low h p = rw (← is, high-family k h, p)
+
+  pub end-high : 2 ≤ k → m ≡ true → own-end q ≡ h-max
+  end-high h p = rw (← is, high-family k h, p)
+
+-- ---- a bound at that end
+pub does-at : {e k : End} (W : Windows) (y : ℕ) {v w : ℤ} {x : Done} → e ≡ k → w ≡ v → Did k W y (bound w) x → Did e W y (bound v) x
+does-at W y p q z = rw (p, ← q) z
+
+pub does-found : (k : End) (W : Windows) (y : ℕ) {f g : Finding} {x : Done} → f ≡ g → Did k W y g x → Did k W y f x
+does-found k W y p z = rw p z
+
+-- ---- a new end is in its range
+between : (a b : Bool) (w v : ℤ) → narrowing a b w ≡ narrows v → (a ≡ true) × (b ≡ false) × (w ≡ v)
+between true true w v e = let z : _≡_ {A = ℕ} 0 1 = cc in absurd (omega arith)
+between true false w v e = (refl, refl, cc)
+between false b w v e = let z : _≡_ {A = ℕ} 0 1 = cc in absurd (omega arith)
+
+bound-range : {n : ℕ} {W : Windows} (k : End) (y : ℕ) (w v : ℤ) → Ranged n W → y < n → effect k W y (bound w) ≡ narrows v → Within v (span k)
+bound-range {n} {W} t-min y w v r l e =
+    let p = between (leZ w (W y t-max)) (leZ w (W y t-min)) w v e in
+    let a = r .range y l t-min in
+    let b = r .range y l t-max in
+    omega ints
+bound-range {n} {W} t-max y w v r l e =
+    let p = between (leZ (W y t-min) w) (leZ (W y t-max) w) w v e in
+    let a = r .range y l t-min in
+    let b = r .range y l t-max in
+    omega ints
+bound-range {n} {W} h-min y w v r l e =
+    let p = between (leZ w (W y h-max)) (leZ w (W y h-min)) w v e in
+    let a = r .range y l h-min in
+    let b = r .range y l h-max in
+    omega ints
+bound-range {n} {W} h-max y w v r l e =
+    let p = between (leZ (W y h-min) w) (leZ (W y h-max) w) w v e in
+    let a = r .range y l h-min in
+    let b = r .range y l h-max in
+    omega ints
+
+pub new-range : {n : ℕ} {W : Windows} (k : End) (y : ℕ) (f : Finding) (v : ℤ) → Ranged n W → y < n → effect k W y f ≡ narrows v → Within v (span k)
+new-range k y nothing v r l e = let z : _≡_ {A = ℕ} 0 1 = cc in absurd (omega arith)
+new-range k y clash v r l e = let z : _≡_ {A = ℕ} 0 1 = cc in absurd (omega arith)
+new-range k y (bound w) v r l e = bound-range k y w v r l e
