@@ -1,0 +1,5 @@
+pub mod Moves
+pub mod Wording
+pub mod Trying
+pub mod Running
+pub mod Planning

@@ -1,0 +1,5 @@
+pub mod State
+pub mod Slips
+pub mod Attempts
+pub mod Runs
+pub mod Plans

@@ -1,0 +1,39 @@
+-- The run of the code read as the model's.
+use mathlib.Core.Path.{_≡_}
+use mathlib.Core.Bool.{false}
+use mathlib.Core.List.{List}
+use Prim.Native.Nat.{ℕ}
+use lib.IntN.{ℤ}
+use lib.ListN.{length}
+use Rattle.model.specs.Job.{Job}
+use Rattle.model.specs.Rounds as model
+use Rattle.model.specs.Rounds.{ended, settled, conflict, stopped, start}
+use Rattle.tables.specs.Board.{table-of}
+use Rattle.propagator.specs.State.{status-of, still, state-of, Grown}
+use Rattle.propagator.specs.declared.Progress.{Progress}
+use Rattle.propagator.specs.declared.Status.the-variants.{Running}
+use Rattle.propagator.specs.declared.Verdict.{Verdict}
+use Rattle.propagator.specs.declared.Verdict.the-variants.{Settled, Conflict, Stopped}
+use Rattle.propagator.specs.declared.Ended.{Ended}
+
+-- No slip yet.
+abbrev pub fresh : Progress
+fresh = record { used = 0; slips = 0; last = 0; status = Running }
+
+abbrev pub verdict-of : Verdict → model.Verdict
+verdict-of Settled = settled
+verdict-of Conflict = conflict
+verdict-of Stopped = stopped
+
+-- v is the verdict of a call that has ended.
+pub record Tested (p : Progress) (v : Verdict) : Type 0 where
+  pub is : still (status-of (p .status)) ≡ false → status-of (p .status) ≡ ended (verdict-of v)
+
+abbrev pub run-of : ℕ → List ℤ → List ℤ → Ended → model.Run
+run-of n b buffer q =
+    record { verdict = verdict-of (q .verdict); rounds = q .rounds; state = state-of n b buffer (q .progress) }
+
+-- The run from the window table of n events on a board.
+pub record Ran (n : ℕ) (j : Job) (b buffer b′ buffer′ : List ℤ) (q : Ended) : Type 0 where
+  pub is : run-of n b′ buffer′ q ≡ model.run (length buffer) j (length buffer) 0 (start (table-of n b))
+  pub grown : Grown n buffer fresh b′ buffer′ (q .progress)

@@ -1,0 +1,104 @@
+// The whole call: its questions, the run on a board, the list's trailer and the window table written back.
+use crate::Answer;
+use crate::Counts;
+use crate::Ended;
+use crate::Job;
+use crate::Verdict;
+use crate::runs::run;
+use crate::slips::append_trailer;
+use tables::Check;
+use tables::Height;
+use tables::Reservoir;
+use tables::Time;
+use tables::asked::questions;
+use tables::load;
+use tables::unload;
+ghost use mathlib.Core.Path.{_≡_};
+ghost use Prim.Native.Nat.{_*_, _≤_};
+ghost use lib.ListN.{length};
+ghost use Rattle.model.specs.Job.{windows};
+ghost use Rattle.model.specs.Rounds.{run, start};
+ghost use Rattle.model.specs.Planner.{done, planned, plan};
+ghost use Rattle.rules.specs.Values.{Ranged};
+ghost use Rattle.propagator.specs.State.{job-at, Fit};
+ghost use Rattle.propagator.specs.Runs.{verdict-of};
+ghost use Rattle.propagator.specs.Plans.{reply-of, task-of, Outcomes};
+
+// The answer of a run that has ended, with the list's length.
+pub fn answer(e: Ended, length: usize) -> Answer
+    ensures { λ r. ⌜ reply-of r ≡ done (verdict-of (e .verdict)) (e .progress .slips) (e .rounds) length ⌝ }
+{
+    let p = e.progress;
+    let counts = Counts {
+        slips: p.slips,
+        rounds: e.rounds,
+        length: length,
+    };
+    let v = e.verdict;
+    match v {
+        Verdict::Settled => Answer::Settled(counts),
+        Verdict::Conflict => Answer::Conflict(counts),
+        Verdict::Stopped => Answer::Stopped(counts),
+    }
+}
+
+// The job of a call.
+pub fn task(h: i32, low: i32, high: i32, q: i32, n: usize) -> Job
+    ensures { λ k. ⌜ k ≡ task-of h low high q n ⌝ }
+{
+    Job {
+        horizon: Time(h),
+        reservoir: Reservoir {
+            low: Height(low),
+            high: Height(high),
+            initial: Height(q),
+        },
+        events: n,
+    }
+}
+
+// The run of a job that passed its questions, with both lent tables written.
+pub fn planned(k: Job, table: &mut [i32], lags: &[i32], buffer: &mut [i32]) -> Answer
+    requires { ⌜
+        Fit (job-at k (now lags))
+        × (length (now table) ≡ 4 * k .events)
+        × Ranged (k .events) (windows (now table))
+        × (3 ≤ length (now buffer))
+        × (length (now buffer) ≤ 1000000)
+        ⌝ }
+    ensures { λ r. ⌜
+        Outcomes (planned (run (length (now (buffer .entry))) (job-at k (now (lags .entry))) (length (now (buffer .entry))) 0 (start (now (table .entry)))) (now (buffer .entry)))
+        (now (table .exit)) (now (buffer .exit)) r
+        ⌝ }
+{
+    let n = k.events;
+    let mut b: [i32; 256] = [0; 256];
+    load(table, n, &mut b);
+    let e = run(&mut b, lags, k, buffer);
+    let p = e.progress;
+    let used = p.used;
+    let length = append_trailer(buffer, used, p.slips, p.last);
+    unload(&b, n, table);
+    answer(e, length)
+}
+
+// The planner: the reply, and every word of the window table and the slip buffer, as document 01 says. A refusal changes no lent word.
+pub fn plan(
+    h: i32,
+    low: i32,
+    high: i32,
+    q: i32,
+    table: &mut [i32],
+    lags: &[i32],
+    buffer: &mut [i32],
+) -> Answer
+    ensures answer { λ r. ⌜ reply-of r ≡ plan h low high q (now (table .entry)) (now (lags .entry)) (now (buffer .entry)) .reply ⌝ }
+    ensures windows { λ r. ⌜ now (table .exit) ≡ plan h low high q (now (table .entry)) (now (lags .entry)) (now (buffer .entry)) .table ⌝ }
+    ensures slips { λ r. ⌜ now (buffer .exit) ≡ plan h low high q (now (table .entry)) (now (lags .entry)) (now (buffer .entry)) .buffer ⌝ }
+{
+    let check = questions(h, low, high, q, table, lags, buffer.len());
+    match check {
+        Check::Refuse(r) => Answer::Refused(r),
+        Check::Pass => planned(task(h, low, high, q, table.len() / 4), table, lags, buffer),
+    }
+}

@@ -1,0 +1,64 @@
+// Rounds until settled, conflict or stopped.
+use crate::Ended;
+use crate::Job;
+use crate::Progress;
+use crate::Status;
+use crate::Verdict;
+use crate::attempts::is_running;
+use crate::sweeps::round;
+ghost use mathlib.Core.Path.{_≡_};
+ghost use lib.ListN.{length};
+ghost use Rattle.propagator.specs.State.{job-at, Fit, Held};
+ghost use Rattle.propagator.specs.Runs.{fresh, Tested, Ran};
+
+// No slip yet.
+pub fn start() -> Progress
+    ensures { λ p. ⌜ p ≡ fresh ⌝ }
+{
+    Progress {
+        used: 0,
+        slips: 0,
+        last: 0,
+        status: Status::Running,
+    }
+}
+
+// The verdict of a call that has ended.
+fn verdict(p: Progress) -> Verdict
+    ensures { λ v. ⌜ Tested p v ⌝ }
+{
+    let s = p.status;
+    match s {
+        Status::Running => Verdict::Settled,
+        Status::Conflict => Verdict::Conflict,
+        Status::Stopped => Verdict::Stopped,
+    }
+}
+
+// Rounds from the start until one writes no slip, or a conflict or the room ends the call.
+pub fn run(b: &mut [i32; 256], lags: &[i32], k: Job, buffer: &mut [i32]) -> Ended
+    requires { ⌜ Fit (job-at k (now lags)) × Held (k .events) (now b) (now buffer) fresh ⌝ }
+    ensures { λ q. ⌜ Ran (k .events) (job-at k (now (lags .entry))) (now (b .entry)) (now (buffer .entry)) (now (b .exit)) (now (buffer .exit)) q ⌝ }
+{
+    let mut p = start();
+    let mut rounds: usize = 0;
+    loop {
+        let q = round(b, lags, k, buffer, p);
+        rounds += 1;
+        if !is_running(q) {
+            return Ended {
+                verdict: verdict(q),
+                rounds: rounds,
+                progress: q,
+            };
+        }
+        if q.slips == p.slips {
+            return Ended {
+                verdict: Verdict::Settled,
+                rounds: rounds,
+                progress: q,
+            };
+        }
+        p = q;
+    }
+}
