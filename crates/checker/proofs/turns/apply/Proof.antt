@@ -1,0 +1,29 @@
+-- `checker::turns::apply` meets its contract.
+-- Assumes nothing.
+use Rattle.checker.proofs.Turning.{none-made, one-made}
+use borrow.Author.Needs.{needs}
+use Rattle.checker.proofs.turns.apply.Statement.{statement}
+use Rattle.checker.proofs.turns.apply.Tie as tie
+
+word-is-requires : tie.Need-word-is-requires
+word-is-requires c κs = search needs
+
+returns : tie.Need-returns
+returns c = λ fs. none-made (c .before .before .before .args .n) (c .before .before .before .args .b .now) (c .before .before .before .pre .1) (c .before .before .before .args .s) fs (c .before .word-is .ensures) (c .if1 .taken)
+
+index-requires : tie.Need-index-requires
+index-requires c κs = search needs
+
+end-kind-requires : tie.Need-end-kind-requires
+end-kind-requires c κs = search needs
+
+store-requires : tie.Need-store-requires
+store-requires c κs = search needs
+
+returns-2 : tie.Need-returns-2
+returns-2 c = λ fs. let q = c .before .before .before .before .before .before .before .before .before .pre .0 in one-made (c .before .before .before .before .before .before .before .before .before .args .n) (c .before .before .before .before .before .before .before .before .before .args .b .now) (c .before .before .before .before .before .before .before .before .before .pre .1) (c .before .before .before .before .before .before .before .before .before .args .s) fs (c .before .before .before .before .before .before .before .word-is .ensures) (c .before .before .before .index .result) (c .before .before .end-kind .result) (c .before .before .before .before .before .before .if1 .left) (c .before .before .end-kind .ensures) (c .before .before .before .index .ensures) (rw (c .before .before .before .index .ensures) (q .event)) (q .few) (c .store .ensures)
+
+pub apply-spec : {M : Type 1} → statement M
+apply-spec =
+    tie.close
+    (tie.spec word-is-requires returns index-requires end-kind-requires store-requires returns-2)

@@ -1,0 +1,205 @@
+// The slip reader: accepts or refuses any list of slips, whoever wrote it.
+pub mod words; // words.rt: the words of a list: any numbers
+pub mod reading; // reading.rt: 13: a slip read from the list
+pub mod premises; // premises.rt: the facts of a slip: 14 and 15, and windows narrowed by them
+pub mod opened; // opened.rt: the widest windows
+pub mod naming; // naming.rt: 14: what a slip names
+pub mod giving; // giving.rt: 16 to 18: what its rule gives on the fact windows, and what it does
+pub mod turns; // turns.rt: all slips in turn, each narrowing made before the next
+
+use crate::opened::widen;
+use crate::turns::read_all;
+use crate::words::index;
+use crate::words::not_negative;
+use crate::words::word_at;
+use crate::words::word_is;
+use tables::Check;
+use tables::Height;
+use tables::Refusal;
+use tables::Reservoir;
+use tables::Time;
+use tables::asked::questions;
+use tables::load;
+use tables::unload;
+ghost use mathlib.Core.Path.{_≡_};
+ghost use Prim.Native.Nat.{_<_, _≤_};
+ghost use Rattle.model.specs.Reader.{accepted, check};
+ghost use Rattle.model.specs.Planner.{done};
+ghost use Rattle.rules.specs.Values.{reservoir-of};
+ghost use Rattle.checker.specs.Verdict.{trailed, closed-at, reply-of, ended-reply, check-reply, called, found, Passing, Judges};
+
+// A word of a list: any number.
+pub struct Word(pub i32);
+
+// A slip: its header, the word place of its first fact, and the number of its facts.
+pub struct Slip {
+    pub rule: usize,
+    pub subject: Word,
+    pub target: Word,
+    pub kind: Word,
+    pub value: Word,
+    pub facts: usize,
+    pub count: usize,
+}
+
+// A slip read comes apart as a slip and the place after it, or as a refusal.
+pub enum Read {
+    Whole(Slip, usize),
+    Cut,
+}
+
+// A fact: its event, its kind, its value.
+pub struct Fact {
+    pub event: usize,
+    pub kind: usize,
+    pub value: Word,
+}
+
+// One slip read and asked: the place after it and whether it is a conflict, or the number of a refusal.
+pub enum Step {
+    On(usize, bool),
+    No(usize),
+}
+
+// Where the last slip ends and begins, and whether it is a conflict.
+pub struct Tail {
+    pub after: usize,
+    pub last: usize,
+    pub conflict: bool,
+}
+
+// All slips read, or refused.
+pub enum Ended {
+    Done(Tail),
+    Refused(Refusal),
+}
+
+// The reader's answer: open or conflict, or refused.
+pub enum Verdict {
+    Open,
+    Conflict,
+    Refused(Refusal),
+}
+
+// ---- the call
+
+fn reservoir(low: i32, high: i32, q: i32) -> Reservoir
+    ensures { λ r. ⌜ reservoir-of r ≡ record { min-level = low; max-level = high; initial = q } ⌝ }
+{
+    Reservoir {
+        low: Height(low),
+        high: Height(high),
+        initial: Height(q),
+    }
+}
+
+// 12. Is the last word 4207 and the count not negative?
+fn is_marked(list: &[i32]) -> bool
+    requires { do ⌜ 3 ≤ (← ⟦list.len()⟧) ⌝ }
+    ensures { λ b. ⌜ b ≡ trailed (now (list .entry)) ⌝ }
+{
+    let stop = list.len() - 3;
+    let mark = word_at(list, stop + 2);
+    if !word_is(mark, 4207) {
+        return false;
+    }
+    let count = word_at(list, stop);
+    not_negative(count)
+}
+
+// 19. Do the slips end at the trailer, its second word where the last begins?
+fn ends_well(list: &[i32], t: Tail) -> bool
+    requires { do ⌜ (3 ≤ (← ⟦list.len()⟧)) × (t .last < 2147483648) ⌝ }
+    ensures { λ b. ⌜ b ≡ closed-at (now (list .entry)) (t .after) (t .last) ⌝ }
+{
+    let stop = list.len() - 3;
+    let after = t.after;
+    if after != stop {
+        return false;
+    }
+    let place = word_at(list, stop + 1);
+    let last = t.last;
+    word_is(place, last)
+}
+
+fn said(conflict: bool) -> Verdict
+    ensures { λ v. ⌜ reply-of v ≡ done (accepted conflict) 0 0 0 ⌝ }
+{
+    if conflict {
+        Verdict::Conflict
+    } else {
+        Verdict::Open
+    }
+}
+
+// The verdict on a reading that was refused.
+fn refusal(e: Ended) -> Verdict
+    ensures { λ v. ⌜ reply-of v ≡ ended-reply e ⌝ }
+{
+    match e {
+        Ended::Done(t) => said(t.conflict),
+        Ended::Refused(r) => Verdict::Refused(r),
+    }
+}
+
+// The verdict on a call that questions 1 to 11 refuse.
+fn refused(c: Check) -> Verdict
+    ensures { λ v. ⌜ reply-of v ≡ check-reply c ⌝ }
+{
+    match c {
+        Check::Pass => Verdict::Open,
+        Check::Refuse(r) => Verdict::Refused(r),
+    }
+}
+
+// 13 to 19 of a call whose questions 1 to 12 passed. The windows are stored once, at the end.
+fn judge(horizon: Time, c: Reservoir, table: &mut [i32], lags: &[i32], list: &[i32]) -> Verdict
+    requires { ⌜ Passing (called (horizon .0) (reservoir-of c)) (now table) (now lags) (now list) ⌝ }
+    ensures { λ v. ⌜ Judges (found (called (horizon .0) (reservoir-of c)) (now (table .entry)) (now (lags .entry)) (now (list .entry))) (now (table .exit)) v ⌝ }
+{
+    let n = table.len() / 4;
+    let stop = list.len() - 3;
+    let count = index(word_at(list, stop));
+    let mut b = [0i32; 256];
+    load(table, n, &mut b);
+    let mut wide = [0i32; 256];
+    widen(&b, n, horizon, &mut wide);
+    let ended = read_all(&mut b, &wide, list, lags, n, horizon, c, stop, count);
+    let Ended::Done(t) = ended else {
+        return refusal(ended);
+    };
+    if !ends_well(list, t) {
+        return Verdict::Refused(Refusal {
+            number: 19,
+            place: 0,
+        });
+    }
+    unload(&b, n, table);
+    let conflict = t.conflict;
+    said(conflict)
+}
+
+// The slip reader: whatever words the list holds, it is accepted, the windows narrowed, or refused by number and place, no word changed.
+pub fn check(
+    h: i32,
+    low: i32,
+    high: i32,
+    q: i32,
+    table: &mut [i32],
+    lags: &[i32],
+    list: &[i32],
+) -> Verdict
+    ensures { λ v. ⌜ Judges (check h low high q (now (table .entry)) (now (lags .entry)) (now (list .entry))) (now (table .exit)) v ⌝ }
+{
+    let asked = questions(h, low, high, q, table, lags, list.len());
+    let Check::Pass = asked else {
+        return refused(asked);
+    };
+    if !is_marked(list) {
+        return Verdict::Refused(Refusal {
+            number: 12,
+            place: 0,
+        });
+    }
+    judge(Time(h), reservoir(low, high, q), table, lags, list)
+}
