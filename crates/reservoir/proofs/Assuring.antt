@@ -1,0 +1,128 @@
+-- Demands 1 to 3 of the call that plans and then reads, from the two contracts and the theory's theorem alone.
+-- Assumes nothing.
+use mathlib.Core.Path.{_≡_, refl, sym, ap, subst, _∙_}
+use mathlib.Core.List.{List}
+use Prim.Native.Nat.{ℕ, _*_, _≤_, _/_}
+use native.Mathlib.Omega.{arith}
+use lib.IntN.{ℤ}
+use lib.ListN.{length, take}
+use Rattle.model.specs.Job.{job}
+use Rattle.model.specs.Rounds.{Verdict, settled, conflict, stopped}
+use Rattle.model.specs.Questions.{pass, questions}
+use Rattle.model.specs.Planner.{Reply, refused, done, Outcome, plan}
+use Rattle.model.specs.Reader.{check}
+use Rattle.model.proofs.Questions.{Asked, asked}
+use Rattle.model.proofs.Refusals.{plan-passed, plan-lengths}
+use Rattle.model.proofs.Demand.{echoed, Demand3, Replay, Acceptance}
+use Rattle.model.proofs.DemandProof.{demand3, planner-keeps, planner-clash}
+use Rattle.propagator.specs.Plans.{reply-of as answer-of}
+use Rattle.checker.specs.Verdict.{reply-of as verdict-of}
+use Rattle.propagator.specs.declared.Answer.{Answer}
+use Rattle.propagator.specs.declared.Answer.the-variants.{Settled, Conflict, Stopped, Refused}
+use Rattle.tables.specs.declared.Refusal.{Refusal}
+use Rattle.reservoir.specs.Assured.{written-of, Copied, Unread, Taken, Assured}
+use Rattle.reservoir.specs.declared.Checked.{Checked}
+use Rattle.reservoir.specs.declared.Written.{Written}
+use Rattle.reservoir.specs.declared.Written.the-variants.{Listed, Nothing}
+use Rattle.checker.specs.declared.Verdict.{Verdict as Said}
+use Rattle.checker.specs.declared.Verdict.the-variants.{Refused as Unsaid}
+
+pub unread-nothing : {w : Written} {r : Refusal} (a : Answer) → w ≡ Nothing r → Unread w (record { answer = a; verdict = Unsaid r })
+unread-nothing a e = rw e refl
+
+pub unread-listed : {w : Written} {n : ℕ} (a : Answer) (s : Said) → w ≡ Listed n → Unread w (record { answer = a; verdict = s })
+unread-listed a s e = rw e tt
+
+-- What the list's length says of the answer.
+pub record Listing (a : Answer) (len : ℕ) : Type 0 where
+  pub verdict : Verdict
+  pub slips : ℕ
+  pub rounds : ℕ
+  pub is : answer-of a ≡ done verdict slips rounds len
+
+no-list : {A : Type 0} (r : Refusal) (len : ℕ) → Nothing r ≡ Listed len → A
+no-list r len e = absurd (let z : _≡_ {A = ℕ} 0 1 = cc in omega arith)
+
+no-refusal : {A : Type 0} (r : Refusal) (len : ℕ) → Listed len ≡ Nothing r → A
+no-refusal r len e = absurd (let z : _≡_ {A = ℕ} 0 1 = cc in omega arith)
+
+pub listing : (a : Answer) (len : ℕ) → written-of a ≡ Listed len → Listing a len
+listing (Settled c) len e = record { verdict = settled; slips = c .slips; rounds = c .rounds; is = let f : c .length ≡ len = cc in ap (done settled (c .slips) (c .rounds)) f }
+listing (Conflict c) len e = record { verdict = conflict; slips = c .slips; rounds = c .rounds; is = let f : c .length ≡ len = cc in ap (done conflict (c .slips) (c .rounds)) f }
+listing (Stopped c) len e = record { verdict = stopped; slips = c .slips; rounds = c .rounds; is = let f : c .length ≡ len = cc in ap (done stopped (c .slips) (c .rounds)) f }
+listing (Refused r) len e = no-list r len e
+
+pub refusing : (a : Answer) (r : Refusal) → written-of a ≡ Nothing r → answer-of a ≡ refused (r .number) (r .place)
+refusing (Settled c) r e = no-refusal r (c .length) e
+refusing (Conflict c) r e = no-refusal r (c .length) e
+refusing (Stopped c) r e = no-refusal r (c .length) e
+refusing (Refused k) r e = let f : k ≡ r = cc in ap (λ x. refused (x .number) (x .place)) f
+
+not-both : {A : Type 0} (v : Verdict) (a b c n p : ℕ) → done v a b c ≡ refused n p → A
+not-both v a b c n p e = absurd (let z : _≡_ {A = ℕ} 0 1 = cc in omega arith)
+
+module _ (h low high q : ℤ) (table lags buffer : List ℤ) (a : Answer) {table′ buffer′ : List ℤ}
+    (ea : answer-of a ≡ plan h low high q table lags buffer .reply) (et : table′ ≡ plan h low high q table lags buffer .table) (eb : buffer′ ≡ plan h low high q table lags buffer .buffer) where
+  abbrev theorem : Demand3 h low high q table lags
+  theorem = demand3 h low high q table lags
+
+  pub assured-unread : (r : Refusal) → written-of a ≡ Nothing r → (c : Checked) → c .answer ≡ a → verdict-of (c .verdict) ≡ refused (r .number) (r .place) → Assured h low high q table lags buffer table′ buffer′ c
+  assured-unread r w c f g =
+      let i = refusing a r w in
+      let u = theorem .planner-refuses buffer (r .number) (r .place) (sym ea ∙ i) in
+      record {
+        answer = rw f ea;
+        windows-left = et;
+        slips-left = eb;
+        untouched = λ n p k. (et ∙ u .same-table, eb ∙ u .same-buffer, g ∙ sym i ∙ sym (ap answer-of f) ∙ k);
+        taken = λ v s m len k. not-both v s m len (r .number) (r .place) (sym k ∙ ap answer-of f ∙ i);
+      }
+
+  module _ (len : ℕ) (w : written-of a ≡ Listed len) where
+    l : Listing a len
+    l = listing a len w
+
+    e : plan h low high q table lags buffer .reply ≡ done (l .verdict) (l .slips) (l .rounds) len
+    e = sym ea ∙ l .is
+
+    pub few : length table ≤ 256
+    few =
+        let k = asked h low high q table lags (length buffer) (plan-passed h low high q table lags buffer (l .verdict) (l .slips) (l .rounds) len e) in
+        let m = k .sane .few-events in
+        let n = k .whole-events in
+        omega arith
+
+    pub fits : len ≤ length buffer′
+    fits =
+        let k = theorem .complete buffer (l .verdict) (l .slips) (l .rounds) len e .fits in
+        let m = plan-lengths h low high q table lags buffer .1 in
+        let n = ap length eb in
+        omega arith
+
+    pub assured-read : (copy : List ℤ) → Copied table copy → (v′ : Said) → verdict-of v′ ≡ check h low high q (take (length table) copy) lags (take len buffer′) .reply → Assured h low high q table lags buffer table′ buffer′ (record { answer = a; verdict = v′ })
+    assured-read copy c v′ g =
+        record {
+          answer = ea;
+          windows-left = et;
+          slips-left = eb;
+          untouched = λ n p k. not-both (l .verdict) (l .slips) (l .rounds) len n p (sym (l .is) ∙ k);
+          taken = λ v s m n k. go v s m n (sym e ∙ sym ea ∙ k);
+        }
+      where
+        list : List ℤ
+        list = take len (plan h low high q table lags buffer .buffer)
+
+        go : (v : Verdict) (s m n : ℕ) → done (l .verdict) (l .slips) (l .rounds) len ≡ done v s m n → Taken h low high q table lags table′ buffer′ v n (record { answer = a; verdict = v′ })
+        go v s m n k =
+            let x : l .verdict ≡ v = cc in
+            let y : len ≡ n = cc in
+            let d : plan h low high q table lags buffer .reply ≡ done v s m n = e ∙ k in
+            let r = theorem .complete buffer v s m n d in
+            let i : take len buffer′ ≡ take n (plan h low high q table lags buffer .buffer) = rw (eb, y) in
+            let reply : verdict-of v′ ≡ done (echoed v) 0 0 0 = g ∙ rw (c .first few, i) (r .reply) in
+            record {
+              read = reply;
+              means = rw eb (theorem .sound (take n (plan h low high q table lags buffer .buffer)) (echoed v) 0 0 0 (r .reply));
+              keeps = rw et (planner-keeps h low high q table lags buffer v s m n d);
+              none = planner-clash h low high q table lags buffer v s m n d;
+            }

@@ -1,0 +1,111 @@
+// The library: planner and reader, and the one call in which both assure each other.
+//
+// The planner is `propagator::plans::plan`. Its promise, that answer, window table and slip buffer equal the definition `plan`, rules out
+// a planner that writes no slip and one that answers conflict always (crates/propagator/must-fail).
+// The reader is `checker::check`. Its promise, that verdict and window table equal the definition `check`, rules out
+// a reader that refuses every list and one that accepts every list (crates/checker/must-fail).
+use checker::Verdict;
+use checker::check;
+use propagator::Answer;
+use propagator::plans::plan;
+use tables::Refusal;
+ghost use Rattle.reservoir.specs.Assured.{written-of, Copied, Unread, Assured};
+ghost use mathlib.Core.Path.{_≡_};
+ghost use lib.ListN.{length};
+
+// The planner's answer, and the reader's verdict on the list that it wrote.
+pub struct Checked {
+    pub answer: Answer,
+    pub verdict: Verdict,
+}
+
+// The length of the list that was written, or why none was.
+pub enum Written {
+    Listed(usize),
+    Nothing(Refusal),
+}
+
+fn list_of(a: Answer) -> Written
+    ensures { λ w. ⌜ w ≡ written-of a ⌝ }
+{
+    match a {
+        Answer::Settled(c) => Written::Listed(c.length),
+        Answer::Conflict(c) => Written::Listed(c.length),
+        Answer::Stopped(c) => Written::Listed(c.length),
+        Answer::Refused(r) => Written::Nothing(r),
+    }
+}
+
+// The table's words copied, if it has at most 256.
+fn keep(table: &[i32], copy: &mut [i32; 256])
+    requires { ⌜ length (now copy) ≡ 256 ⌝ }
+    ensures { λ r. ⌜ Copied (now (table .entry)) (now (copy .exit)) ⌝ }
+{
+    let n = table.len();
+    if 256 < n {
+        return;
+    }
+    let mut i: usize = 0;
+    while i < n {
+        copy[i] = table[i];
+        i += 1;
+    }
+}
+
+// A call that was refused, with no list to read.
+fn unread(answer: Answer, w: Written) -> Checked
+    requires { ⌜ w ≡ written-of answer ⌝ }
+    ensures { λ c. ⌜ (c .answer ≡ answer) × Unread w c ⌝ }
+{
+    match w {
+        Written::Nothing(r) => Checked {
+            answer: answer,
+            verdict: Verdict::Refused(r),
+        },
+        Written::Listed(_) => Checked {
+            answer: answer,
+            verdict: Verdict::Open,
+        },
+    }
+}
+
+// Plans, then reads what was written with the windows as first sent in.
+// The promise is demands 1 to 3 in one piece. It rules out a planner that invents its slips or counts, a refused call that stores a word, and a reader
+// that accepts a list which loses a legal plan.
+pub fn plan_and_read(
+    h: i32,
+    low: i32,
+    high: i32,
+    q: i32,
+    table: &mut [i32],
+    lags: &[i32],
+    buffer: &mut [i32],
+) -> Checked
+    ensures { λ r. ⌜
+        Assured
+        h
+        low
+        high
+        q
+        (now (table .entry))
+        (now (lags .entry))
+        (now (buffer .entry))
+        (now (table .exit))
+        (now (buffer .exit))
+        r
+        ⌝ }
+{
+    let n = table.len();
+    let mut copy = [0i32; 256];
+    keep(table, &mut copy);
+    let answer = plan(h, low, high, q, table, lags, buffer);
+    let w = list_of(answer);
+    let Written::Listed(len) = w else {
+        return unread(answer, w);
+    };
+    let verdict = check(h, low, high, q, &mut copy[..n], lags, &buffer[..len]);
+    Checked {
+        answer: answer,
+        verdict: verdict,
+    }
+}
