@@ -1,0 +1,27 @@
+-- `text::print::print_done` meets its contract.
+-- Assumes nothing.
+use native.Mathlib.Omega.{arith}
+use Rattle.text.specs.Output.{done-text}
+use Rattle.text.proofs.Writing.{put-then, printed-by}
+use borrow.Author.Needs.{needs}
+use Rattle.text.proofs.print.print_done.Statement.{statement}
+use Rattle.text.proofs.print.print_done.Tie as tie
+
+put-verdict-requires : tie.Need-put-verdict-requires
+put-verdict-requires c κs = search needs
+
+put-events-requires : tie.Need-put-events-requires
+put-events-requires c κs = search needs
+
+same-length : tie.Need-same-length
+same-length c = search needs
+
+returns : tie.Need-returns
+unfolding done-text
+returns c =
+    let k = c .before .before in
+    let v = k .before .before .before .before in
+    printed-by (omega (arith, k .put-events .kept .0, v .put-verdict .kept .0)) (put-then (v .put-verdict .ensures) (k .put-events .ensures))
+
+pub print-done-spec : {M : Type 1} → statement M
+print-done-spec = tie.close (tie.spec put-verdict-requires put-events-requires same-length returns)

@@ -1,0 +1,6 @@
+pub mod Bytes
+pub mod Grammar
+pub mod Scanner
+pub mod Layout
+pub mod Output
+pub mod Buffer
