@@ -1,0 +1,17 @@
+# make run       prove and build the program, and run it on examples/worked.txt (JOB=file for another)
+# make gate      the second program, then everything proved from nothing; the last line is "N passed, 0 failed"
+# make prove     prove what has changed since the last run
+# make format    lay out every source file
+
+JOB ?= examples/worked.txt
+
+.PHONY: run gate prove format
+run:
+	rt check planner > /dev/null
+	target/bin/planner < $(JOB)
+gate:
+	bash .ci/run
+prove:
+	rt check
+format:
+	rt fmt
