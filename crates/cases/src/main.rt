@@ -45,10 +45,10 @@ fn copy(from: &[i32], start: usize, to: &mut [i32])
     }
 }
 
-// The call itself. What the planner writes is printed as the list, and what it leaves as it was after it.
+// The call itself. What the planner writes is printed as the list, then what it leaves as it was, then what the reader says of that list.
 fn call(numbers: &[i32; 1030], table: &mut [i32], lags: &[i32], list: &mut [i32]) {
     if numbers[0] == 1 {
-        let answer = propagator::plans::plan(
+        let checked = reservoir::plan_and_read(
             numbers[1],
             numbers[2],
             numbers[3],
@@ -57,12 +57,16 @@ fn call(numbers: &[i32; 1030], table: &mut [i32], lags: &[i32], list: &mut [i32]
             lags,
             list,
         );
+        let answer = checked.answer;
+        let verdict = checked.verdict;
         let length = planned(answer);
         windows(table);
         if length <= list.len() {
             line(b"list", &list[0..length]);
             line(b"kept", &list[length..]);
         }
+        say(b"read ");
+        judged(verdict);
         return;
     }
     let verdict = checker::check(
