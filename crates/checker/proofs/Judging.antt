@@ -1,7 +1,7 @@
 -- The reader's whole call: questions 1 to 12, all slips, question 19, and the windows stored.
 -- Assumes nothing.
 use mathlib.Core.Path.{_≡_, refl, sym, ap, subst, _∙_}
-use mathlib.Core.Bool.{Bool, true, false, not, _&&_}
+use mathlib.Core.Bool.{Bool, true, false, not, cond, _&&_}
 use mathlib.Core.List.{List}
 use Prim.Native.Nat.{ℕ, zero, suc, _+_, _*_, _-_, _/_, _<_, _≤_}
 use native.Mathlib.Omega.{arith}
@@ -24,7 +24,7 @@ use Rattle.tables.specs.Asked.{check-of}
 use Rattle.rules.specs.Values.{job-of, Lagged}
 use Rattle.checker.specs.Slip.{Lags, Called, Ends}
 use Rattle.checker.specs.Wide.{Wide}
-use Rattle.checker.specs.Verdict.{trailed, closed-at, reply-of, ended-reply, check-reply, called, found, Passing, Judges}
+use Rattle.checker.specs.Verdict.{trailed, closed-at, reply-of, accepting, left-by, closing-reply, called, Passing, Trailed, read-over, found, Judges}
 use Rattle.checker.specs.declared.Ended.{Ended}
 use Rattle.checker.specs.declared.Ended.the-variants.{Done, Refused as Cut}
 use Rattle.checker.specs.declared.Tail.{Tail}
@@ -49,9 +49,41 @@ not-at-end list after last n = and-no _ _ (ne-eqb after (stop-of list) n) refl
 pub at-end : (list : List ℤ) (after last : ℕ) {w : ℤ} {r : Bool} → after ≡ stop-of list → w ≡ at list (stop-of list + 1) → r ≡ eqZ w (pos last) → r ≡ closed-at list after last
 at-end list after last e f g = and-yes _ _ (eq-eqb after (stop-of list) e) (rw f at g)
 
-pub judged-pass : (table list : List ℤ) (r : model.Read) → r .check ≡ pass → closed-at list (r .after) (r .last) ≡ true →
-    judged table list r ≡ record { reply = done (accepted (r .conflicting)) 0 0 0; table = r .table; buffer = list }
-judged-pass table list r e f = rw (judged, e, f)
+-- ---- the verdict on a reading
+
+module _ (table list left : List ℤ) where
+  abbrev all-read : Tail → model.Read
+  all-read t = record { check = pass; conflicting = t .conflict; table = left; after = t .after; last = t .last }
+
+  -- All slips read: question 19 decides, and the windows left follow it.
+  closed-judged : (t : Tail) (k : Bool) → closed-at list (t .after) (t .last) ≡ k → (v : Verdict) → reply-of v ≡ closing-reply list t →
+      Judges (judged table list (all-read t)) (left-by v left table) v
+  closed-judged t true e v g = record { answer = g ∙ rw (judged, e) refl; windows = rw (g, judged, e) refl }
+  closed-judged t false e v g = record { answer = g ∙ rw (judged, e) refl; windows = rw (g, judged, e) refl }
+
+  -- A refused slip: no window is left narrowed.
+  cut-judged : (r : model.Read) (k : Refusal) → r .check ≡ refuse (k .number) (k .place) → Judges (judged table list r) (left-by (Refused k) left table) (Refused k)
+  cut-judged r k e = record { answer = rw (judged, e) refl; windows = rw (judged, e) refl }
+
+module _ (h : ℤ) (c : Reservoir) (n : ℕ) (lags list b b′ : List ℤ) where
+  abbrev reading-over : model.Read
+  reading-over = read-from (job-of h c n lags) (widest h (windows (table-of n b))) list (stop-of list) (natAbs (counted list)) 0 0 0 false (table-of n b)
+
+  module _ {e : Ended} (ends : Ends n reading-over b′ (stop-of list) e) where
+    pub judges-cut : (k : Refusal) → e ≡ Cut k → Judges (read-over (job-of h c n lags) (table-of n b) list) (left-by (Refused k) (table-of n b′) (table-of n b)) (Refused k)
+    unfolding read-all
+    judges-cut k f = cut-judged (table-of n b) list (table-of n b′) reading-over k (subst (Ends n reading-over b′ (stop-of list)) f ends)
+
+    module _ (t : Tail) (f : e ≡ Done t) where
+      done-out : Ends n reading-over b′ (stop-of list) (Done t)
+      done-out = subst (Ends n reading-over b′ (stop-of list)) f ends
+
+      pub last-in : t .last ≤ stop-of list
+      last-in = done-out .2
+
+      pub judges-done : {v : Verdict} → reply-of v ≡ closing-reply list t → Judges (read-over (job-of h c n lags) (table-of n b) list) (left-by v (table-of n b′) (table-of n b)) v
+      unfolding read-all
+      judges-done {v} g = rw (done-out .0) (closed-judged (table-of n b) list (table-of n b′) t _ refl v g)
 
 -- ---- the call read
 
@@ -62,20 +94,19 @@ module _ (h : ℤ) (c : Reservoir) (table lags list : List ℤ) (p : Passing (ca
   facts : Asked h (c .min-level) (c .max-level) (c .initial) table lags (length list)
   facts = asked h (c .min-level) (c .max-level) (c .initial) table lags (length list) (p .asked)
 
-  pub room : 3 ≤ length list
-  room = facts .room-low
-
-  pub short : length list ≤ 1000000
-  short = facts .room-high
+  pub trailer-right : Trailed list
+  trailer-right =
+      record {
+        room = facts .room-low;
+        short = facts .room-high;
+        sign = and-out (eqZ (at list (stop-of list + 2)) (pos 4207)) (leZ (pos 0) (counted list)) (true-is (p .trailer)) .1;
+      }
 
   pub few : n ≤ 64
   few = facts .sane .few-events
 
   pub whole-events : length table ≡ 4 * n
   whole-events = facts .whole-events
-
-  pub count-sign : T (leZ (pos 0) (counted list))
-  count-sign = and-out (eqZ (at list (stop-of list + 2)) (pos 4207)) (leZ (pos 0) (counted list)) (true-is (p .trailer)) .1
 
   lags-right : Lags n lags
   lags-right =
@@ -97,44 +128,17 @@ module _ (h : ℤ) (c : Reservoir) (table lags list : List ℤ) (p : Passing (ca
     pub call : Called h lags n c wide b
     call = record { sane = facts .sane; lags-right = lags-right; standing = rw (loaded .is) (facts .standing); whole = loaded .whole; opened = opened }
 
-    abbrev whole-reading : model.Read
-    whole-reading = read-from (job-of h c n lags) (widest h (windows (table-of n b))) list (stop-of list) (natAbs (counted list)) 0 0 0 false (table-of n b)
-
-    reading-is : read-all (called h c table lags) table list ≡ whole-reading
-    unfolding read-all
-    reading-is = rw (loaded .is)
-
-    module _ (b′ : List ℤ) (e : Ended) (ends : Ends n whole-reading b′ (stop-of list) e) where
-      cut-out : (r : Refusal) → e ≡ Cut r → whole-reading .check ≡ refuse (r .number) (r .place)
-      cut-out r f = subst (Ends n whole-reading b′ (stop-of list)) f ends
-
-      done-out : (t : Tail) → e ≡ Done t → Ends n whole-reading b′ (stop-of list) (Done t)
-      done-out t f = subst (Ends n whole-reading b′ (stop-of list)) f ends
-
-      pub judges-cut : (v : Verdict) (r : Refusal) → e ≡ Cut r → reply-of v ≡ ended-reply e → Judges (found (called h c) table lags list) table v
-      judges-cut v r f g = rw (reading-is, judged, cut-out r f) (record { answer = g ∙ ap ended-reply f; windows = refl })
-
-      pub last-in : (t : Tail) → e ≡ Done t → t .last ≤ length list
-      last-in t f = let o = done-out t f .2 in omega arith
-
-      module _ (t : Tail) (f : e ≡ Done t) {k : Bool} (end : k ≡ closed-at list (t .after) (t .last)) where
-        read-is : read-all (called h c table lags) table list ≡ record { check = pass; conflicting = t .conflict; table = table-of n b′; after = t .after; last = t .last }
-        read-is = reading-is ∙ done-out t f .0
-
-        pub judges-open-ended : not k ≡ true → (v : Verdict) → reply-of v ≡ refused 19 0 → Judges (found (called h c) table lags list) table v
-        judges-open-ended z v g = rw (read-is, judged, sym end ∙ not-true k z) (record { answer = g; windows = refl })
-
-        pub judges-done : not k ≡ false → (v : Verdict) (table′ : List ℤ) → reply-of v ≡ done (accepted (t .conflict)) 0 0 0 → table′ ≡ table-of n b′ → Judges (found (called h c) table lags list) table′ v
-        judges-done z v table′ g w =
-            let o = ap (judged table list) read-is ∙ judged-pass table list (record { check = pass; conflicting = t .conflict; table = table-of n b′; after = t .after; last = t .last }) refl (sym end ∙ not-false k z) in
-            rw o (record { answer = g; windows = w })
+    -- The windows stored follow the verdict.
+    pub stored : (b′ : List ℤ) {table′ : List ℤ} (v : Verdict) {whole : Bool} → whole ≡ accepting v → table′ ≡ cond whole (table-of n b′) table →
+        Judges (read-over (job-of h c n lags) (table-of n b) list) (left-by v (table-of n b′) (table-of n b)) v → Judges (found (called h c) table lags list) table′ v
+    stored b′ v e w o = let p = rw (loaded .is) at o in record { answer = p .answer; windows = w ∙ rw e (p .windows) }
 
 -- ---- questions 1 to 12
 
 module _ (h low high q : ℤ) (table lags list : List ℤ) {x : Asks} (ea : check-of x ≡ questions (job h low high q table lags) table (length list)) where
-  pub check-refused : (r : Refusal) → x ≡ Refuse r → (v : Verdict) → reply-of v ≡ check-reply x → Judges (check h low high q table lags list) table v
+  pub check-refused : (r : Refusal) → x ≡ Refuse r → Judges (check h low high q table lags list) table (Refused r)
   unfolding check
-  check-refused r f v g = rw (check, sym ea ∙ ap check-of f) (record { answer = g ∙ ap check-reply f; windows = refl })
+  check-refused r f = rw (check, sym ea ∙ ap check-of f) (record { answer = refl; windows = refl })
 
   module _ (f : x ≡ Pass) where
     passes : questions (job h low high q table lags) table (length list) ≡ pass
@@ -144,9 +148,9 @@ module _ (h low high q : ℤ) (table lags list : List ℤ) {x : Asks} (ea : chec
     room-there = asked h low high q table lags (length list) passes .room-low
 
     module _ {k : Bool} (ek : k ≡ trailed list) where
-      pub check-unmarked : not k ≡ true → (v : Verdict) → reply-of v ≡ refused 12 0 → Judges (check h low high q table lags list) table v
+      pub check-unmarked : not k ≡ true → Judges (check h low high q table lags list) table (Refused (record { number = 12; place = 0 }))
       unfolding check
-      check-unmarked z v g = rw (check, passes, sym ek ∙ not-true k z) (record { answer = g; windows = refl })
+      check-unmarked z = rw (check, passes, sym ek ∙ not-true k z) (record { answer = refl; windows = refl })
 
       module _ (z : not k ≡ false) where
         pub check-passing : {d : ℤ} {c : Reservoir} → d ≡ h → c ≡ record { min-level = low; max-level = high; initial = q } → Passing (called d c) table lags list

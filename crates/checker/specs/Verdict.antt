@@ -1,9 +1,9 @@
 -- The reader's answer read as document 01's reply.
 use mathlib.Core.Path.{_≡_}
-use mathlib.Core.Bool.{Bool, true, _&&_}
+use mathlib.Core.Bool.{Bool, true, false, cond, _&&_}
 use mathlib.Core.List.{List}
-use Prim.Native.Nat.{ℕ, _+_}
-use lib.Dec.{eqb}
+use Prim.Native.Nat.{ℕ, _+_, _≤_}
+use lib.Dec.{T, eqb}
 use lib.IntN.{ℤ, pos}
 use lib.ListN.{length}
 use lib.Signed.{leZ}
@@ -13,10 +13,7 @@ use Rattle.model.specs.Rounds.{conflict, still-open}
 use Rattle.model.specs.Questions.{pass, questions}
 use Rattle.model.specs.Planner.{Reply, refused, done, Outcome}
 use Rattle.model.specs.Reader.{at, stop-of, counted, accepted, read-all, judged}
-use Rattle.tables.specs.declared.Check.{Check}
-use Rattle.tables.specs.declared.Check.the-variants.{Pass, Refuse}
-use Rattle.checker.specs.declared.Ended.{Ended}
-use Rattle.checker.specs.declared.Ended.the-variants.{Done, Refused as Cut}
+use Rattle.checker.specs.declared.Tail.{Tail}
 use Rattle.checker.specs.declared.Verdict.{Verdict}
 use Rattle.checker.specs.declared.Verdict.the-variants.{Open, Conflict, Refused}
 
@@ -34,14 +31,22 @@ reply-of Open = done still-open 0 0 0
 reply-of Conflict = done conflict 0 0 0
 reply-of (Refused r) = refused (r .number) (r .place)
 
--- The reply to a reading that ended, to questions that were asked.
-abbrev pub ended-reply : Ended → Reply
-ended-reply (Done t) = done (accepted (t .conflict)) 0 0 0
-ended-reply (Cut r) = refused (r .number) (r .place)
+-- A reply that accepts, a verdict that does.
+abbrev pub takes : Reply → Bool
+takes (refused number place) = false
+takes (done v slips rounds len) = true
 
-abbrev pub check-reply : Check → Reply
-check-reply Pass = done still-open 0 0 0
-check-reply (Refuse r) = refused (r .number) (r .place)
+abbrev pub accepting : Verdict → Bool
+accepting v = takes (reply-of v)
+
+-- Of two tables, the one that a verdict leaves: the narrowed windows if it accepts, else those kept.
+abbrev pub left-by : Verdict → List ℤ → List ℤ → List ℤ
+left-by v narrowed kept = cond (accepting v) narrowed kept
+
+-- The reply to a list whose slips were all read.
+abbrev pub closing-reply : List ℤ → Tail → Reply
+closing-reply list t =
+    cond (closed-at list (t .after) (t .last)) (done (accepted (t .conflict)) 0 0 0) (refused 19 0)
 
 -- The job of a call, from its tables.
 abbrev pub called : ℤ → Reservoir → List ℤ → List ℤ → Job
@@ -52,9 +57,18 @@ pub record Passing (j : List ℤ → List ℤ → Job) (table lags list : List �
   pub asked : questions (j table lags) table (length list) ≡ pass
   pub trailer : trailed list ≡ true
 
--- What it leaves.
+-- A list with room for a trailer and a count that is not negative.
+pub record Trailed (list : List ℤ) : Type 0 where
+  pub room : 3 ≤ length list
+  pub short : length list ≤ 1000000
+  pub sign : T (leZ (pos 0) (counted list))
+
+-- What reading leaves of a job and its window table; of a call.
+abbrev pub read-over : Job → List ℤ → List ℤ → Outcome
+read-over j table list = judged table list (read-all j table list)
+
 abbrev pub found : (List ℤ → List ℤ → Job) → List ℤ → List ℤ → List ℤ → Outcome
-found j table lags list = judged table list (read-all (j table lags) table list)
+found j table lags list = read-over (j table lags) table list
 
 -- The answer and the window table at exit are what a call leaves.
 pub record Judges (o : Outcome) (table : List ℤ) (v : Verdict) : Type 0 where

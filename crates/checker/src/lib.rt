@@ -19,14 +19,17 @@ use tables::Refusal;
 use tables::Reservoir;
 use tables::Time;
 use tables::asked::questions;
+use tables::cage;
 use tables::load;
 use tables::unload;
+ghost use mathlib.Core.Bool.{cond};
 ghost use mathlib.Core.Path.{_≡_};
-ghost use Prim.Native.Nat.{_<_, _≤_};
-ghost use Rattle.model.specs.Reader.{accepted, check};
-ghost use Rattle.model.specs.Planner.{done};
-ghost use Rattle.rules.specs.Values.{reservoir-of};
-ghost use Rattle.checker.specs.Verdict.{trailed, closed-at, reply-of, ended-reply, check-reply, called, found, Passing, Judges};
+ghost use Prim.Native.Nat.{_*_, _<_, _≤_};
+ghost use Rattle.model.specs.Reader.{check};
+ghost use Rattle.tables.specs.Board.{table-of};
+ghost use Rattle.rules.specs.Values.{job-of, reservoir-of};
+ghost use Rattle.checker.specs.Slip.{Called};
+ghost use Rattle.checker.specs.Verdict.{trailed, closed-at, reply-of, accepting, left-by, closing-reply, called, Passing, Trailed, read-over, found, Judges};
 
 // A word of a list: any number.
 pub struct Word(pub i32);
@@ -83,16 +86,6 @@ pub enum Verdict {
 
 // ---- the call
 
-fn reservoir(low: i32, high: i32, q: i32) -> Reservoir
-    ensures { λ r. ⌜ reservoir-of r ≡ record { min-level = low; max-level = high; initial = q } ⌝ }
-{
-    Reservoir {
-        low: Height(low),
-        high: Height(high),
-        initial: Height(q),
-    }
-}
-
 // 12. Is the last word 4207 and the count not negative?
 fn is_marked(list: &[i32]) -> bool
     requires { do ⌜ 3 ≤ (← ⟦list.len()⟧) ⌝ }
@@ -122,61 +115,86 @@ fn ends_well(list: &[i32], t: Tail) -> bool
     word_is(place, last)
 }
 
-fn said(conflict: bool) -> Verdict
-    ensures { λ v. ⌜ reply-of v ≡ done (accepted conflict) 0 0 0 ⌝ }
+// The verdict on a list whose slips were all read: open or conflict, if it ends well.
+fn closing(list: &[i32], t: Tail) -> Verdict
+    requires { do ⌜ (3 ≤ (← ⟦list.len()⟧)) × (t .last < 2147483648) ⌝ }
+    ensures { λ v. ⌜ reply-of v ≡ closing-reply (now (list .entry)) t ⌝ }
 {
-    if conflict {
-        Verdict::Conflict
-    } else {
-        Verdict::Open
-    }
-}
-
-// The verdict on a reading that was refused.
-fn refusal(e: Ended) -> Verdict
-    ensures { λ v. ⌜ reply-of v ≡ ended-reply e ⌝ }
-{
-    match e {
-        Ended::Done(t) => said(t.conflict),
-        Ended::Refused(r) => Verdict::Refused(r),
-    }
-}
-
-// The verdict on a call that questions 1 to 11 refuse.
-fn refused(c: Check) -> Verdict
-    ensures { λ v. ⌜ reply-of v ≡ check-reply c ⌝ }
-{
-    match c {
-        Check::Pass => Verdict::Open,
-        Check::Refuse(r) => Verdict::Refused(r),
-    }
-}
-
-// 13 to 19 of a call whose questions 1 to 12 passed. The windows are stored once, at the end.
-fn judge(horizon: Time, c: Reservoir, table: &mut [i32], lags: &[i32], list: &[i32]) -> Verdict
-    requires { ⌜ Passing (called (horizon .0) (reservoir-of c)) (now table) (now lags) (now list) ⌝ }
-    ensures { λ v. ⌜ Judges (found (called (horizon .0) (reservoir-of c)) (now (table .entry)) (now (lags .entry)) (now (list .entry))) (now (table .exit)) v ⌝ }
-{
-    let n = table.len() / 4;
-    let stop = list.len() - 3;
-    let count = index(word_at(list, stop));
-    let mut b = [0i32; 256];
-    load(table, n, &mut b);
-    let mut wide = [0i32; 256];
-    widen(&b, n, horizon, &mut wide);
-    let ended = read_all(&mut b, &wide, list, lags, n, horizon, c, stop, count);
-    let Ended::Done(t) = ended else {
-        return refusal(ended);
-    };
     if !ends_well(list, t) {
         return Verdict::Refused(Refusal {
             number: 19,
             place: 0,
         });
     }
-    unload(&b, n, table);
-    let conflict = t.conflict;
-    said(conflict)
+    if t.conflict {
+        Verdict::Conflict
+    } else {
+        Verdict::Open
+    }
+}
+
+// 13 to 19 over the board of the windows sent in. Accepted, the board holds the windows narrowed.
+fn judge_slips(
+    b: &mut [i32; 256],
+    wide: &[i32; 256],
+    list: &[i32],
+    lags: &[i32],
+    n: usize,
+    horizon: Time,
+    c: Reservoir,
+) -> Verdict
+    requires { ⌜ Called (horizon .0) (now lags) n (reservoir-of c) (now wide) (now b) × Trailed (now list) ⌝ }
+    ensures { λ v. ⌜
+        Judges
+        (read-over (job-of (horizon .0) (reservoir-of c) n (now (lags .entry))) (table-of n (now (b .entry))) (now (list .entry)))
+        (left-by v (table-of n (now (b .exit))) (table-of n (now (b .entry))))
+        v
+        ⌝ }
+{
+    let stop = list.len() - 3;
+    let count = index(word_at(list, stop));
+    let ended = read_all(b, wide, list, lags, n, horizon, c, stop, count);
+    match ended {
+        Ended::Refused(r) => Verdict::Refused(r),
+        Ended::Done(t) => closing(list, t),
+    }
+}
+
+// Is the list accepted?
+fn accepts(v: Verdict) -> bool
+    ensures { λ b. ⌜ b ≡ accepting v ⌝ }
+{
+    match v {
+        Verdict::Refused(_) => false,
+        Verdict::Open => true,
+        Verdict::Conflict => true,
+    }
+}
+
+// The windows on the board stored in the table, if they are to be; else no word of it changes.
+fn leave(b: &[i32; 256], n: usize, table: &mut [i32], whole: bool)
+    requires { do ⌜ (n ≤ 64) × ((← ⟦table.len()⟧) ≡ 4 * n) ⌝ }
+    ensures { λ r. ⌜ now (table .exit) ≡ cond whole (table-of n (now (b .entry))) (now (table .entry)) ⌝ }
+{
+    if whole {
+        unload(b, n, table);
+    }
+}
+
+// 13 to 19 of a call whose questions 1 to 12 passed. The windows are stored once, at the end, and only if the whole list is accepted.
+fn judge(horizon: Time, c: Reservoir, table: &mut [i32], lags: &[i32], list: &[i32]) -> Verdict
+    requires { ⌜ Passing (called (horizon .0) (reservoir-of c)) (now table) (now lags) (now list) ⌝ }
+    ensures { λ v. ⌜ Judges (found (called (horizon .0) (reservoir-of c)) (now (table .entry)) (now (lags .entry)) (now (list .entry))) (now (table .exit)) v ⌝ }
+{
+    let n = table.len() / 4;
+    let mut b = [0i32; 256];
+    load(table, n, &mut b);
+    let mut wide = [0i32; 256];
+    widen(&b, n, horizon, &mut wide);
+    let v = judge_slips(&mut b, &wide, list, lags, n, horizon, c);
+    let whole = accepts(v);
+    leave(&b, n, table, whole);
+    v
 }
 
 // The slip reader: whatever words the list holds, it is accepted, the windows narrowed, or refused by number and place, no word changed.
@@ -192,14 +210,16 @@ pub fn check(
     ensures { λ v. ⌜ Judges (check h low high q (now (table .entry)) (now (lags .entry)) (now (list .entry))) (now (table .exit)) v ⌝ }
 {
     let asked = questions(h, low, high, q, table, lags, list.len());
-    let Check::Pass = asked else {
-        return refused(asked);
-    };
-    if !is_marked(list) {
-        return Verdict::Refused(Refusal {
-            number: 12,
-            place: 0,
-        });
+    match asked {
+        Check::Refuse(r) => Verdict::Refused(r),
+        Check::Pass => {
+            if !is_marked(list) {
+                return Verdict::Refused(Refusal {
+                    number: 12,
+                    place: 0,
+                });
+            }
+            judge(Time(h), cage(low, high, q), table, lags, list)
+        }
     }
-    judge(Time(h), reservoir(low, high, q), table, lags, list)
 }

@@ -7,10 +7,9 @@ use crate::Verdict;
 use crate::runs::run;
 use crate::slips::append_trailer;
 use tables::Check;
-use tables::Height;
-use tables::Reservoir;
 use tables::Time;
 use tables::asked::questions;
+use tables::cage;
 use tables::load;
 use tables::unload;
 ghost use mathlib.Core.Path.{_≡_};
@@ -48,11 +47,7 @@ pub fn task(h: i32, low: i32, high: i32, q: i32, n: usize) -> Job
 {
     Job {
         horizon: Time(h),
-        reservoir: Reservoir {
-            low: Height(low),
-            high: Height(high),
-            initial: Height(q),
-        },
+        reservoir: cage(low, high, q),
         events: n,
     }
 }

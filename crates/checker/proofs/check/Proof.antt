@@ -1,66 +1,76 @@
--- `checker::check` meets its contract.
--- Assumes nothing.
-use Rattle.checker.proofs.Judging.{check-refused, room-there, check-unmarked, check-passing, check-judged}
-use Rattle.checker.specs.declared.Verdict.the-variants.{Refused}
+-- `checker::check` meets its contract: refused by its questions, by the trailer, or judged. Assumes nothing.
+use mathlib.Core.Path.{refl, ap, _∙_}
 use mir.Facts.{toZ-ofZ}
-use mathlib.Core.Path.{refl}
 use borrow.Author.Needs.{needs}
+use Rattle.rules.specs.Values.{reservoir-of}
+use Rattle.checker.proofs.Judging.{check-refused, room-there, check-unmarked, check-passing, check-judged}
 use Rattle.checker.proofs.check.Statement.{statement}
 use Rattle.checker.proofs.check.Tie as tie
 
 questions-requires : tie.Need-questions-requires
 questions-requires c κs = search needs
 
+enum-known-asked : tie.Need-enum-known-asked
+enum-known-asked c = search needs
+
 enum-told : tie.Need-enum-told
 enum-told c = search needs
 
-enum-told-2 : tie.Need-enum-told-2
-enum-told-2 c = search needs
-
-refused-requires : tie.Need-refused-requires
-refused-requires c κs = search needs
+is-marked-requires : tie.Need-is-marked-requires
+is-marked-requires c κs =
+    let s = c .before .before .before .before in
+    let a = s .args in
+    room-there (a .h) (a .low) (a .high) (a .q) (a .table .now) (a .lags .now) (a .list .now) (rw (toZ-ofZ (s .fits .h), toZ-ofZ (s .fits .low), toZ-ofZ (s .fits .high), toZ-ofZ (s .fits .q)) at (c .before .before .questions .ensures)) (c .enum-told .given .1)
 
 same-length : tie.Need-same-length
 same-length c = search needs
 
 returns : tie.Need-returns
-returns c = check-refused (c .before .before .before .before .before .args .h) (c .before .before .before .before .before .args .low) (c .before .before .before .before .before .args .high) (c .before .before .before .before .before .args .q) (c .before .before .before .before .before .args .table .now) (c .before .before .before .before .before .args .lags .now) (c .before .before .before .before .before .args .list .now) (rw (toZ-ofZ (c .before .before .before .before .before .fits .h), toZ-ofZ (c .before .before .before .before .before .fits .low), toZ-ofZ (c .before .before .before .before .before .fits .high), toZ-ofZ (c .before .before .before .before .before .fits .q)) at (c .before .before .before .questions .ensures)) (c .before .enum-told2 .given .0 .0) (c .before .enum-told2 .given .1) (c .refused .result) (c .refused .ensures)
+returns c =
+    let s = c .before .before .before .before .before .before in
+    let a = s .args in
+    check-unmarked (a .h) (a .low) (a .high) (a .q) (a .table .now) (a .lags .now) (a .list .now) (rw (toZ-ofZ (s .fits .h), toZ-ofZ (s .fits .low), toZ-ofZ (s .fits .high), toZ-ofZ (s .fits .q)) at (c .before .before .before .before .questions .ensures)) (c .before .before .enum-told .given .1) (c .before .is-marked .ensures) (c .if1 .taken)
 
-is-marked-requires : tie.Need-is-marked-requires
-is-marked-requires c κs = room-there (c .before .before .before .before .args .h) (c .before .before .before .before .args .low) (c .before .before .before .before .args .high) (c .before .before .before .before .args .q) (c .before .before .before .before .args .table .now) (c .before .before .before .before .args .lags .now) (c .before .before .before .before .args .list .now) (rw (toZ-ofZ (c .before .before .before .before .fits .h), toZ-ofZ (c .before .before .before .before .fits .low), toZ-ofZ (c .before .before .before .before .fits .high), toZ-ofZ (c .before .before .before .before .fits .q)) at (c .before .before .questions .ensures)) (c .enum-told .given .1)
+cage-requires : tie.Need-cage-requires
+cage-requires c κs = search needs
+
+judge-requires : tie.Need-judge-requires
+judge-requires c κs =
+    let s = c .before .before .before .before .before .before .before .before in
+    let a = s .args in
+    check-passing (a .h) (a .low) (a .high) (a .q) (a .table .now) (a .lags .now) (a .list .now) (rw (toZ-ofZ (s .fits .h), toZ-ofZ (s .fits .low), toZ-ofZ (s .fits .high), toZ-ofZ (s .fits .q)) at (c .before .before .before .before .before .before .questions .ensures)) (c .before .before .before .before .enum-told .given .1) (c .before .before .before .is-marked .ensures) (c .before .before .if1 .left) (toZ-ofZ (s .fits .h)) (rw (toZ-ofZ (s .fits .low), toZ-ofZ (s .fits .high), toZ-ofZ (s .fits .q)) at (ap reservoir-of (c .before .cage .ensures)))
 
 same-length-2 : tie.Need-same-length-2
 same-length-2 c = search needs
 
 returns-2 : tie.Need-returns-2
-returns-2 c = check-unmarked (c .before .before .before .before .before .before .args .h) (c .before .before .before .before .before .before .args .low) (c .before .before .before .before .before .before .args .high) (c .before .before .before .before .before .before .args .q) (c .before .before .before .before .before .before .args .table .now) (c .before .before .before .before .before .before .args .lags .now) (c .before .before .before .before .before .before .args .list .now) (rw (toZ-ofZ (c .before .before .before .before .before .before .fits .h), toZ-ofZ (c .before .before .before .before .before .before .fits .low), toZ-ofZ (c .before .before .before .before .before .before .fits .high), toZ-ofZ (c .before .before .before .before .before .before .fits .q)) at (c .before .before .before .before .questions .ensures)) (c .before .before .enum-told .given .1) (c .before .is-marked .ensures) (c .if1 .taken) (Refused (record { number = 12; place = 0 })) refl
-
-reservoir-requires : tie.Need-reservoir-requires
-reservoir-requires c κs = search needs
-
-judge-requires : tie.Need-judge-requires
-judge-requires c κs = check-passing (c .before .before .before .before .before .before .before .before .args .h) (c .before .before .before .before .before .before .before .before .args .low) (c .before .before .before .before .before .before .before .before .args .high) (c .before .before .before .before .before .before .before .before .args .q) (c .before .before .before .before .before .before .before .before .args .table .now) (c .before .before .before .before .before .before .before .before .args .lags .now) (c .before .before .before .before .before .before .before .before .args .list .now) (rw (toZ-ofZ (c .before .before .before .before .before .before .before .before .fits .h), toZ-ofZ (c .before .before .before .before .before .before .before .before .fits .low), toZ-ofZ (c .before .before .before .before .before .before .before .before .fits .high), toZ-ofZ (c .before .before .before .before .before .before .before .before .fits .q)) at (c .before .before .before .before .before .before .questions .ensures)) (c .before .before .before .before .enum-told .given .1) (c .before .before .before .is-marked .ensures) (c .before .before .if1 .left) (toZ-ofZ (c .before .before .before .before .before .before .before .before .fits .h)) (rw (toZ-ofZ (c .before .before .before .before .before .before .before .before .fits .low), toZ-ofZ (c .before .before .before .before .before .before .before .before .fits .high), toZ-ofZ (c .before .before .before .before .before .before .before .before .fits .q)) at (c .before .reservoir .ensures))
+returns-2 c =
+    let s = c .before .before .before .before .before in
+    let a = s .args in
+    check-refused (a .h) (a .low) (a .high) (a .q) (a .table .now) (a .lags .now) (a .list .now) (rw (toZ-ofZ (s .fits .h), toZ-ofZ (s .fits .low), toZ-ofZ (s .fits .high), toZ-ofZ (s .fits .q)) at (c .before .before .before .questions .ensures)) (c .before .asked .given .0 .0) (c .before .asked .given .1)
 
 same-length-3 : tie.Need-same-length-3
 same-length-3 c = search needs
 
 returns-3 : tie.Need-returns-3
-returns-3 c = check-judged (c .before .before .before .before .before .before .before .before .before .before .args .h) (c .before .before .before .before .before .before .before .before .before .before .args .low) (c .before .before .before .before .before .before .before .before .before .before .args .high) (c .before .before .before .before .before .before .before .before .before .before .args .q) (c .before .before .before .before .before .before .before .before .before .before .args .table .now) (c .before .before .before .before .before .before .before .before .before .before .args .lags .now) (c .before .before .before .before .before .before .before .before .before .before .args .list .now) (rw (toZ-ofZ (c .before .before .before .before .before .before .before .before .before .before .fits .h), toZ-ofZ (c .before .before .before .before .before .before .before .before .before .before .fits .low), toZ-ofZ (c .before .before .before .before .before .before .before .before .before .before .fits .high), toZ-ofZ (c .before .before .before .before .before .before .before .before .before .before .fits .q)) at (c .before .before .before .before .before .before .before .before .questions .ensures)) (c .before .before .before .before .before .before .enum-told .given .1) (c .before .before .before .before .before .is-marked .ensures) (c .before .before .before .before .if1 .left) (toZ-ofZ (c .before .before .before .before .before .before .before .before .before .before .fits .h)) (rw (toZ-ofZ (c .before .before .before .before .before .before .before .before .before .before .fits .low), toZ-ofZ (c .before .before .before .before .before .before .before .before .before .before .fits .high), toZ-ofZ (c .before .before .before .before .before .before .before .before .before .before .fits .q)) at (c .before .before .before .reservoir .ensures)) (c .before .judge .ensures)
+returns-3 c =
+    let s = c .before .before .before .before .before .before .before .before .before .before in
+    let a = s .args in
+    check-judged (a .h) (a .low) (a .high) (a .q) (a .table .now) (a .lags .now) (a .list .now) (rw (toZ-ofZ (s .fits .h), toZ-ofZ (s .fits .low), toZ-ofZ (s .fits .high), toZ-ofZ (s .fits .q)) at (c .before .before .before .before .before .before .before .before .questions .ensures)) (c .before .before .before .before .before .before .enum-told .given .1) (c .before .before .before .before .before .is-marked .ensures) (c .before .before .before .before .if1 .left) (toZ-ofZ (s .fits .h)) (rw (toZ-ofZ (s .fits .low), toZ-ofZ (s .fits .high), toZ-ofZ (s .fits .q)) at (ap reservoir-of (c .before .before .before .cage .ensures))) (c .before .judge .ensures)
 
 pub check-spec : {M : Type 1} → statement M
 check-spec =
     tie.close
     (tie.spec
     questions-requires
+    enum-known-asked
     enum-told
-    enum-told-2
-    refused-requires
+    is-marked-requires
     same-length
     returns
-    is-marked-requires
+    cage-requires
+    judge-requires
     same-length-2
     returns-2
-    reservoir-requires
-    judge-requires
     same-length-3
     returns-3)

@@ -27,7 +27,10 @@ not-negative-requires : tie.Need-not-negative-requires
 not-negative-requires c κs = search needs
 
 returns-2 : tie.Need-returns-2
-returns-2 c = mark-then (c .before .before .before .before .before .args .list .now) (c .before .before .before .before .word-at .ensures) (c .before .before .before .word-is .ensures) (c .before .before .if1 .left) (c .before .word-at2 .ensures) (c .not-negative .ensures)
+returns-2 c =
+    let s = c .before .before .before .before .before in
+    mark-then (s .args .list .now) (c .before .before .before .before .word-at .ensures) (c .before .before .before .word-is .ensures)
+    (c .before .before .if1 .left) (c .before .word-at2 .ensures) (c .not-negative .ensures)
 
 pub is-marked-spec : {M : Type 1} → statement M
 is-marked-spec =

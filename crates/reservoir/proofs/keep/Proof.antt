@@ -42,7 +42,16 @@ loop-less : tie.Need-loop-less Inv-loop μ-loop
 loop-less c = omega arith
 
 loop-again : tie.Need-loop-again Inv-loop μ-loop
-loop-again c = let a = c .before .before .before .before .args in let l = c .before .before .loop in (omega arith, refl, omega arith, simp length-set (l .inv .3), copy-more (a .table .now) (l .copy) (l .i) (omega arith) (omega arith) (back32 (getD (a .table .now) (l .i) (pos 0)) (search)) (l .inv .4))
+loop-again c =
+    let s = c .before .before .before .before in
+    let a = s .args in
+    let l = c .before .before .loop in (
+      omega arith,
+      refl,
+      omega arith,
+      simp length-set (l .inv .3),
+      copy-more (a .table .now) (l .copy) (l .i) (omega arith) (omega arith) (back32 (getD (a .table .now) (l .i) (pos 0)) (search)) (l .inv .4),
+    )
 
 returns-2 : tie.Need-returns-2 Inv-loop μ-loop
 returns-2 c = let a = c .before .before .before .args in let l = c .before .loop in record { whole = l .inv .3; first = λ _. copy-all (a .table .now) (l .copy) (l .i) (omega arith) (l .inv .4) }

@@ -36,19 +36,83 @@ same-length-2 : tie.Need-same-length-2
 same-length-2 c = search needs
 
 returns : tie.Need-returns
-returns c = assured-unread (c .before .before .before .before .before .before .before .before .before .before .before .before .args .h) (c .before .before .before .before .before .before .before .before .before .before .before .before .args .low) (c .before .before .before .before .before .before .before .before .before .before .before .before .args .high) (c .before .before .before .before .before .before .before .before .before .before .before .before .args .q) (c .before .before .before .before .before .before .before .before .before .before .before .before .args .table .now) (c .before .before .before .before .before .before .before .before .before .before .before .before .args .lags .now) (c .before .before .before .before .before .before .before .before .before .before .before .before .args .buffer .now) (c .before .before .before .before .before .before .plan .result) (rw (toZ-ofZ (c .before .before .before .before .before .before .before .before .before .before .before .before .fits .h), toZ-ofZ (c .before .before .before .before .before .before .before .before .before .before .before .before .fits .low), toZ-ofZ (c .before .before .before .before .before .before .before .before .before .before .before .before .fits .high), toZ-ofZ (c .before .before .before .before .before .before .before .before .before .before .before .before .fits .q)) at (c .before .before .before .before .before .before .plan .ensures .0)) (rw (toZ-ofZ (c .before .before .before .before .before .before .before .before .before .before .before .before .fits .h), toZ-ofZ (c .before .before .before .before .before .before .before .before .before .before .before .before .fits .low), toZ-ofZ (c .before .before .before .before .before .before .before .before .before .before .before .before .fits .high), toZ-ofZ (c .before .before .before .before .before .before .before .before .before .before .before .before .fits .q)) at (c .before .before .before .before .before .before .plan .ensures .1 .0)) (rw (toZ-ofZ (c .before .before .before .before .before .before .before .before .before .before .before .before .fits .h), toZ-ofZ (c .before .before .before .before .before .before .before .before .before .before .before .before .fits .low), toZ-ofZ (c .before .before .before .before .before .before .before .before .before .before .before .before .fits .high), toZ-ofZ (c .before .before .before .before .before .before .before .before .before .before .before .before .fits .q)) at (c .before .before .before .before .before .before .plan .ensures .1 .1)) (c .before .enum-told .given .0 .0) (sym (c .before .before .before .list-of .ensures) ∙ c .before .enum-told .given .1) (c .unread .result) (c .unread .ensures .0) (subst (λ z. Unread z (c .unread .result)) (c .before .enum-told .given .1) (c .unread .ensures .1))
+returns c =
+    let s = c .before .before .before .before .before .before .before .before .before .before .before .before in
+    let a = s .args in
+    assured-unread (a .h) (a .low) (a .high) (a .q) (a .table .now) (a .lags .now) (a .buffer .now)
+    (c .before .before .before .before .before .before .plan .result)
+    (rw (toZ-ofZ (s .fits .h), toZ-ofZ (s .fits .low), toZ-ofZ (s .fits .high), toZ-ofZ (s .fits .q)) at
+    (c .before .before .before .before .before .before .plan .ensures .0))
+    (rw (toZ-ofZ (s .fits .h), toZ-ofZ (s .fits .low), toZ-ofZ (s .fits .high), toZ-ofZ (s .fits .q)) at
+    (c .before .before .before .before .before .before .plan .ensures .1 .0))
+    (rw (toZ-ofZ (s .fits .h), toZ-ofZ (s .fits .low), toZ-ofZ (s .fits .high), toZ-ofZ (s .fits .q)) at
+    (c .before .before .before .before .before .before .plan .ensures .1 .1))
+    (c .before .enum-told .given .0 .0) (sym (c .before .before .before .list-of .ensures) ∙ c .before .enum-told .given .1) (c .unread .result)
+    (c .unread .ensures .0) (subst (λ z. Unread z (c .unread .result)) (c .before .enum-told .given .1) (c .unread .ensures .1))
 
 array-borrow-prefix-copy : tie.Need-array-borrow-prefix-copy
-array-borrow-prefix-copy c = let k = few (c .before .before .before .before .before .before .before .before .before .before .before .before .args .h) (c .before .before .before .before .before .before .before .before .before .before .before .before .args .low) (c .before .before .before .before .before .before .before .before .before .before .before .before .args .high) (c .before .before .before .before .before .before .before .before .before .before .before .before .args .q) (c .before .before .before .before .before .before .before .before .before .before .before .before .args .table .now) (c .before .before .before .before .before .before .before .before .before .before .before .before .args .lags .now) (c .before .before .before .before .before .before .before .before .before .before .before .before .args .buffer .now) (c .before .before .before .before .before .before .plan .result) (rw (toZ-ofZ (c .before .before .before .before .before .before .before .before .before .before .before .before .fits .h), toZ-ofZ (c .before .before .before .before .before .before .before .before .before .before .before .before .fits .low), toZ-ofZ (c .before .before .before .before .before .before .before .before .before .before .before .before .fits .high), toZ-ofZ (c .before .before .before .before .before .before .before .before .before .before .before .before .fits .q)) at (c .before .before .before .before .before .before .plan .ensures .0)) (rw (toZ-ofZ (c .before .before .before .before .before .before .before .before .before .before .before .before .fits .h), toZ-ofZ (c .before .before .before .before .before .before .before .before .before .before .before .before .fits .low), toZ-ofZ (c .before .before .before .before .before .before .before .before .before .before .before .before .fits .high), toZ-ofZ (c .before .before .before .before .before .before .before .before .before .before .before .before .fits .q)) at (c .before .before .before .before .before .before .plan .ensures .1 .0)) (rw (toZ-ofZ (c .before .before .before .before .before .before .before .before .before .before .before .before .fits .h), toZ-ofZ (c .before .before .before .before .before .before .before .before .before .before .before .before .fits .low), toZ-ofZ (c .before .before .before .before .before .before .before .before .before .before .before .before .fits .high), toZ-ofZ (c .before .before .before .before .before .before .before .before .before .before .before .before .fits .q)) at (c .before .before .before .before .before .before .plan .ensures .1 .1)) (c .before .w .given .0 .0) (sym (c .before .before .before .list-of .ensures) ∙ c .before .w .given .1) in omega (arith, (c .before .before .before .before .before .before .before .before .before .keep .ensures) .whole)
+array-borrow-prefix-copy c =
+    let s = c .before .before .before .before .before .before .before .before .before .before .before .before in
+    let a = s .args in
+    let k =
+    few (a .h) (a .low) (a .high) (a .q) (a .table .now) (a .lags .now) (a .buffer .now)
+    (c .before .before .before .before .before .before .plan .result)
+    (rw (toZ-ofZ (s .fits .h), toZ-ofZ (s .fits .low), toZ-ofZ (s .fits .high), toZ-ofZ (s .fits .q)) at
+    (c .before .before .before .before .before .before .plan .ensures .0))
+    (rw (toZ-ofZ (s .fits .h), toZ-ofZ (s .fits .low), toZ-ofZ (s .fits .high), toZ-ofZ (s .fits .q)) at
+    (c .before .before .before .before .before .before .plan .ensures .1 .0))
+    (rw (toZ-ofZ (s .fits .h), toZ-ofZ (s .fits .low), toZ-ofZ (s .fits .high), toZ-ofZ (s .fits .q)) at
+    (c .before .before .before .before .before .before .plan .ensures .1 .1))
+    (c .before .w .given .0 .0) (sym (c .before .before .before .list-of .ensures) ∙ c .before .w .given .1) in
+    omega (arith, (c .before .before .before .before .before .before .before .before .before .keep .ensures) .whole)
 
 slice-aggregate-check : tie.Need-slice-aggregate-check
-slice-aggregate-check c = let k = few (c .before .before .before .before .before .before .before .before .before .before .before .before .before .args .h) (c .before .before .before .before .before .before .before .before .before .before .before .before .before .args .low) (c .before .before .before .before .before .before .before .before .before .before .before .before .before .args .high) (c .before .before .before .before .before .before .before .before .before .before .before .before .before .args .q) (c .before .before .before .before .before .before .before .before .before .before .before .before .before .args .table .now) (c .before .before .before .before .before .before .before .before .before .before .before .before .before .args .lags .now) (c .before .before .before .before .before .before .before .before .before .before .before .before .before .args .buffer .now) (c .before .before .before .before .before .before .before .plan .result) (rw (toZ-ofZ (c .before .before .before .before .before .before .before .before .before .before .before .before .before .fits .h), toZ-ofZ (c .before .before .before .before .before .before .before .before .before .before .before .before .before .fits .low), toZ-ofZ (c .before .before .before .before .before .before .before .before .before .before .before .before .before .fits .high), toZ-ofZ (c .before .before .before .before .before .before .before .before .before .before .before .before .before .fits .q)) at (c .before .before .before .before .before .before .before .plan .ensures .0)) (rw (toZ-ofZ (c .before .before .before .before .before .before .before .before .before .before .before .before .before .fits .h), toZ-ofZ (c .before .before .before .before .before .before .before .before .before .before .before .before .before .fits .low), toZ-ofZ (c .before .before .before .before .before .before .before .before .before .before .before .before .before .fits .high), toZ-ofZ (c .before .before .before .before .before .before .before .before .before .before .before .before .before .fits .q)) at (c .before .before .before .before .before .before .before .plan .ensures .1 .0)) (rw (toZ-ofZ (c .before .before .before .before .before .before .before .before .before .before .before .before .before .fits .h), toZ-ofZ (c .before .before .before .before .before .before .before .before .before .before .before .before .before .fits .low), toZ-ofZ (c .before .before .before .before .before .before .before .before .before .before .before .before .before .fits .high), toZ-ofZ (c .before .before .before .before .before .before .before .before .before .before .before .before .before .fits .q)) at (c .before .before .before .before .before .before .before .plan .ensures .1 .1)) (c .before .before .w .given .0 .0) (sym (c .before .before .before .before .list-of .ensures) ∙ c .before .before .w .given .1) in sym (length-take-le _ _ (omega (arith, (c .before .before .before .before .before .before .before .before .before .before .keep .ensures) .whole)))
+slice-aggregate-check c =
+    let s = c .before .before .before .before .before .before .before .before .before .before .before .before .before in
+    let a = s .args in
+    let k =
+    few (a .h) (a .low) (a .high) (a .q) (a .table .now) (a .lags .now) (a .buffer .now)
+    (c .before .before .before .before .before .before .before .plan .result)
+    (rw (toZ-ofZ (s .fits .h), toZ-ofZ (s .fits .low), toZ-ofZ (s .fits .high), toZ-ofZ (s .fits .q)) at
+    (c .before .before .before .before .before .before .before .plan .ensures .0))
+    (rw (toZ-ofZ (s .fits .h), toZ-ofZ (s .fits .low), toZ-ofZ (s .fits .high), toZ-ofZ (s .fits .q)) at
+    (c .before .before .before .before .before .before .before .plan .ensures .1 .0))
+    (rw (toZ-ofZ (s .fits .h), toZ-ofZ (s .fits .low), toZ-ofZ (s .fits .high), toZ-ofZ (s .fits .q)) at
+    (c .before .before .before .before .before .before .before .plan .ensures .1 .1))
+    (c .before .before .w .given .0 .0) (sym (c .before .before .before .before .list-of .ensures) ∙ c .before .before .w .given .1) in
+    sym
+    (length-take-le _ _ (omega (arith, (c .before .before .before .before .before .before .before .before .before .before .keep .ensures) .whole)))
 
 slice-reshare-prefix-check : tie.Need-slice-reshare-prefix-check
-slice-reshare-prefix-check c = fits (c .before .before .before .before .before .before .before .before .before .before .before .before .before .args .h) (c .before .before .before .before .before .before .before .before .before .before .before .before .before .args .low) (c .before .before .before .before .before .before .before .before .before .before .before .before .before .args .high) (c .before .before .before .before .before .before .before .before .before .before .before .before .before .args .q) (c .before .before .before .before .before .before .before .before .before .before .before .before .before .args .table .now) (c .before .before .before .before .before .before .before .before .before .before .before .before .before .args .lags .now) (c .before .before .before .before .before .before .before .before .before .before .before .before .before .args .buffer .now) (c .before .before .before .before .before .before .before .plan .result) (rw (toZ-ofZ (c .before .before .before .before .before .before .before .before .before .before .before .before .before .fits .h), toZ-ofZ (c .before .before .before .before .before .before .before .before .before .before .before .before .before .fits .low), toZ-ofZ (c .before .before .before .before .before .before .before .before .before .before .before .before .before .fits .high), toZ-ofZ (c .before .before .before .before .before .before .before .before .before .before .before .before .before .fits .q)) at (c .before .before .before .before .before .before .before .plan .ensures .0)) (rw (toZ-ofZ (c .before .before .before .before .before .before .before .before .before .before .before .before .before .fits .h), toZ-ofZ (c .before .before .before .before .before .before .before .before .before .before .before .before .before .fits .low), toZ-ofZ (c .before .before .before .before .before .before .before .before .before .before .before .before .before .fits .high), toZ-ofZ (c .before .before .before .before .before .before .before .before .before .before .before .before .before .fits .q)) at (c .before .before .before .before .before .before .before .plan .ensures .1 .0)) (rw (toZ-ofZ (c .before .before .before .before .before .before .before .before .before .before .before .before .before .fits .h), toZ-ofZ (c .before .before .before .before .before .before .before .before .before .before .before .before .before .fits .low), toZ-ofZ (c .before .before .before .before .before .before .before .before .before .before .before .before .before .fits .high), toZ-ofZ (c .before .before .before .before .before .before .before .before .before .before .before .before .before .fits .q)) at (c .before .before .before .before .before .before .before .plan .ensures .1 .1)) (c .before .before .w .given .0 .0) (sym (c .before .before .before .before .list-of .ensures) ∙ c .before .before .w .given .1)
+slice-reshare-prefix-check c =
+    let s = c .before .before .before .before .before .before .before .before .before .before .before .before .before in
+    let a = s .args in
+    fits (a .h) (a .low) (a .high) (a .q) (a .table .now) (a .lags .now) (a .buffer .now)
+    (c .before .before .before .before .before .before .before .plan .result)
+    (rw (toZ-ofZ (s .fits .h), toZ-ofZ (s .fits .low), toZ-ofZ (s .fits .high), toZ-ofZ (s .fits .q)) at
+    (c .before .before .before .before .before .before .before .plan .ensures .0))
+    (rw (toZ-ofZ (s .fits .h), toZ-ofZ (s .fits .low), toZ-ofZ (s .fits .high), toZ-ofZ (s .fits .q)) at
+    (c .before .before .before .before .before .before .before .plan .ensures .1 .0))
+    (rw (toZ-ofZ (s .fits .h), toZ-ofZ (s .fits .low), toZ-ofZ (s .fits .high), toZ-ofZ (s .fits .q)) at
+    (c .before .before .before .before .before .before .before .plan .ensures .1 .1))
+    (c .before .before .w .given .0 .0) (sym (c .before .before .before .before .list-of .ensures) ∙ c .before .before .w .given .1)
 
 slice-aggregate-check-2 : tie.Need-slice-aggregate-check-2
-slice-aggregate-check-2 c = sym (length-take-le _ _ (fits (c .before .before .before .before .before .before .before .before .before .before .before .before .before .before .args .h) (c .before .before .before .before .before .before .before .before .before .before .before .before .before .before .args .low) (c .before .before .before .before .before .before .before .before .before .before .before .before .before .before .args .high) (c .before .before .before .before .before .before .before .before .before .before .before .before .before .before .args .q) (c .before .before .before .before .before .before .before .before .before .before .before .before .before .before .args .table .now) (c .before .before .before .before .before .before .before .before .before .before .before .before .before .before .args .lags .now) (c .before .before .before .before .before .before .before .before .before .before .before .before .before .before .args .buffer .now) (c .before .before .before .before .before .before .before .before .plan .result) (rw (toZ-ofZ (c .before .before .before .before .before .before .before .before .before .before .before .before .before .before .fits .h), toZ-ofZ (c .before .before .before .before .before .before .before .before .before .before .before .before .before .before .fits .low), toZ-ofZ (c .before .before .before .before .before .before .before .before .before .before .before .before .before .before .fits .high), toZ-ofZ (c .before .before .before .before .before .before .before .before .before .before .before .before .before .before .fits .q)) at (c .before .before .before .before .before .before .before .before .plan .ensures .0)) (rw (toZ-ofZ (c .before .before .before .before .before .before .before .before .before .before .before .before .before .before .fits .h), toZ-ofZ (c .before .before .before .before .before .before .before .before .before .before .before .before .before .before .fits .low), toZ-ofZ (c .before .before .before .before .before .before .before .before .before .before .before .before .before .before .fits .high), toZ-ofZ (c .before .before .before .before .before .before .before .before .before .before .before .before .before .before .fits .q)) at (c .before .before .before .before .before .before .before .before .plan .ensures .1 .0)) (rw (toZ-ofZ (c .before .before .before .before .before .before .before .before .before .before .before .before .before .before .fits .h), toZ-ofZ (c .before .before .before .before .before .before .before .before .before .before .before .before .before .before .fits .low), toZ-ofZ (c .before .before .before .before .before .before .before .before .before .before .before .before .before .before .fits .high), toZ-ofZ (c .before .before .before .before .before .before .before .before .before .before .before .before .before .before .fits .q)) at (c .before .before .before .before .before .before .before .before .plan .ensures .1 .1)) (c .before .before .before .w .given .0 .0) (sym (c .before .before .before .before .before .list-of .ensures) ∙ c .before .before .before .w .given .1)))
+slice-aggregate-check-2 c =
+    let s = c .before .before .before .before .before .before .before .before .before .before .before .before .before .before in
+    let a = s .args in
+    sym
+    (length-take-le _ _
+    (fits (a .h) (a .low) (a .high) (a .q) (a .table .now) (a .lags .now) (a .buffer .now)
+    (c .before .before .before .before .before .before .before .before .plan .result)
+    (rw (toZ-ofZ (s .fits .h), toZ-ofZ (s .fits .low), toZ-ofZ (s .fits .high), toZ-ofZ (s .fits .q)) at
+    (c .before .before .before .before .before .before .before .before .plan .ensures .0))
+    (rw (toZ-ofZ (s .fits .h), toZ-ofZ (s .fits .low), toZ-ofZ (s .fits .high), toZ-ofZ (s .fits .q)) at
+    (c .before .before .before .before .before .before .before .before .plan .ensures .1 .0))
+    (rw (toZ-ofZ (s .fits .h), toZ-ofZ (s .fits .low), toZ-ofZ (s .fits .high), toZ-ofZ (s .fits .q)) at
+    (c .before .before .before .before .before .before .before .before .plan .ensures .1 .1))
+    (c .before .before .before .w .given .0 .0)
+    (sym (c .before .before .before .before .before .list-of .ensures) ∙ c .before .before .before .w .given .1)))
 
 check-requires : tie.Need-check-requires
 check-requires c κs = search needs
@@ -60,7 +124,23 @@ same-length-4 : tie.Need-same-length-4
 same-length-4 c = search needs
 
 returns-2 : tie.Need-returns-2
-returns-2 c = assured-read (c .before .before .before .before .before .before .before .before .before .before .before .before .before .before .before .before .args .h) (c .before .before .before .before .before .before .before .before .before .before .before .before .before .before .before .before .args .low) (c .before .before .before .before .before .before .before .before .before .before .before .before .before .before .before .before .args .high) (c .before .before .before .before .before .before .before .before .before .before .before .before .before .before .before .before .args .q) (c .before .before .before .before .before .before .before .before .before .before .before .before .before .before .before .before .args .table .now) (c .before .before .before .before .before .before .before .before .before .before .before .before .before .before .before .before .args .lags .now) (c .before .before .before .before .before .before .before .before .before .before .before .before .before .before .before .before .args .buffer .now) (c .before .before .before .before .before .before .before .before .before .before .plan .result) (rw (toZ-ofZ (c .before .before .before .before .before .before .before .before .before .before .before .before .before .before .before .before .fits .h), toZ-ofZ (c .before .before .before .before .before .before .before .before .before .before .before .before .before .before .before .before .fits .low), toZ-ofZ (c .before .before .before .before .before .before .before .before .before .before .before .before .before .before .before .before .fits .high), toZ-ofZ (c .before .before .before .before .before .before .before .before .before .before .before .before .before .before .before .before .fits .q)) at (c .before .before .before .before .before .before .before .before .before .before .plan .ensures .0)) (rw (toZ-ofZ (c .before .before .before .before .before .before .before .before .before .before .before .before .before .before .before .before .fits .h), toZ-ofZ (c .before .before .before .before .before .before .before .before .before .before .before .before .before .before .before .before .fits .low), toZ-ofZ (c .before .before .before .before .before .before .before .before .before .before .before .before .before .before .before .before .fits .high), toZ-ofZ (c .before .before .before .before .before .before .before .before .before .before .before .before .before .before .before .before .fits .q)) at (c .before .before .before .before .before .before .before .before .before .before .plan .ensures .1 .0)) (rw (toZ-ofZ (c .before .before .before .before .before .before .before .before .before .before .before .before .before .before .before .before .fits .h), toZ-ofZ (c .before .before .before .before .before .before .before .before .before .before .before .before .before .before .before .before .fits .low), toZ-ofZ (c .before .before .before .before .before .before .before .before .before .before .before .before .before .before .before .before .fits .high), toZ-ofZ (c .before .before .before .before .before .before .before .before .before .before .before .before .before .before .before .before .fits .q)) at (c .before .before .before .before .before .before .before .before .before .before .plan .ensures .1 .1)) (c .before .before .before .before .before .w .given .0 .0) (sym (c .before .before .before .before .before .before .before .list-of .ensures) ∙ c .before .before .before .before .before .w .given .1) (c .before .before .before .before .before .before .before .before .before .before .before .before .before .keep .last .1 .0) (c .before .before .before .before .before .before .before .before .before .before .before .before .before .keep .ensures) (c .before .check .result) (rw (toZ-ofZ (c .before .before .before .before .before .before .before .before .before .before .before .before .before .before .before .before .fits .h), toZ-ofZ (c .before .before .before .before .before .before .before .before .before .before .before .before .before .before .before .before .fits .low), toZ-ofZ (c .before .before .before .before .before .before .before .before .before .before .before .before .before .before .before .before .fits .high), toZ-ofZ (c .before .before .before .before .before .before .before .before .before .before .before .before .before .before .before .before .fits .q)) at (c .before .check .ensures .answer))
+returns-2 c =
+    let s = c .before .before .before .before .before .before .before .before .before .before .before .before .before .before .before .before in
+    let a = s .args in
+    assured-read (a .h) (a .low) (a .high) (a .q) (a .table .now) (a .lags .now) (a .buffer .now)
+    (c .before .before .before .before .before .before .before .before .before .before .plan .result)
+    (rw (toZ-ofZ (s .fits .h), toZ-ofZ (s .fits .low), toZ-ofZ (s .fits .high), toZ-ofZ (s .fits .q)) at
+    (c .before .before .before .before .before .before .before .before .before .before .plan .ensures .0))
+    (rw (toZ-ofZ (s .fits .h), toZ-ofZ (s .fits .low), toZ-ofZ (s .fits .high), toZ-ofZ (s .fits .q)) at
+    (c .before .before .before .before .before .before .before .before .before .before .plan .ensures .1 .0))
+    (rw (toZ-ofZ (s .fits .h), toZ-ofZ (s .fits .low), toZ-ofZ (s .fits .high), toZ-ofZ (s .fits .q)) at
+    (c .before .before .before .before .before .before .before .before .before .before .plan .ensures .1 .1))
+    (c .before .before .before .before .before .w .given .0 .0)
+    (sym (c .before .before .before .before .before .before .before .list-of .ensures) ∙ c .before .before .before .before .before .w .given .1)
+    (c .before .before .before .before .before .before .before .before .before .before .before .before .before .keep .last .1 .0)
+    (c .before .before .before .before .before .before .before .before .before .before .before .before .before .keep .ensures)
+    (c .before .check .result)
+    (rw (toZ-ofZ (s .fits .h), toZ-ofZ (s .fits .low), toZ-ofZ (s .fits .high), toZ-ofZ (s .fits .q)) at (c .before .check .ensures .answer))
 
 pub plan-and-read-spec : {M : Type 1} → statement M
 plan-and-read-spec =

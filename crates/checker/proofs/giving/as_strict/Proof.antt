@@ -41,10 +41,18 @@ returns-2 : tie.Need-returns-2
 returns-2 c = search needs
 
 returns-3 : tie.Need-returns-3
-returns-3 c = strict-at (c .before .before .before .before .before .end-kind .result) (c .before .before .before .before .before .before .args .v .0) _ (c .before .before .before .before .before .end-kind .ensures .1) (ap finding-of (c .before .before .before .f .given .1)) (c .before .time-word .ensures) (c .keeps .ensures)
+returns-3 c =
+    let s = c .before .before .before .before .before .before in
+    strict-at (c .before .before .before .before .before .end-kind .result) (s .args .v .0) _
+    (c .before .before .before .before .before .end-kind .ensures .1) (ap finding-of (c .before .before .before .f .given .1))
+    (c .before .time-word .ensures) (c .keeps .ensures)
 
 returns-4 : tie.Need-returns-4
-returns-4 c = strict-at (c .before .before .before .before .before .end-kind .result) (c .before .before .before .before .before .before .args .v .0) _ (c .before .before .before .before .before .end-kind .ensures .1) (ap finding-of (c .before .before .before .f2 .given .1)) (c .before .height-word .ensures) (c .keeps2 .ensures)
+returns-4 c =
+    let s = c .before .before .before .before .before .before in
+    strict-at (c .before .before .before .before .before .end-kind .result) (s .args .v .0) _
+    (c .before .before .before .before .before .end-kind .ensures .1) (ap finding-of (c .before .before .before .f2 .given .1))
+    (c .before .height-word .ensures) (c .keeps2 .ensures)
 
 pub as-strict-spec : {M : Type 1} → statement M
 as-strict-spec =

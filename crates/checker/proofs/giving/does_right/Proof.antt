@@ -10,10 +10,16 @@ word-is-requires : tie.Need-word-is-requires
 word-is-requires c κs = search needs
 
 returns : tie.Need-returns
-returns c = λ fs. last-one (board (c .before .before .before .before .args .b .now)) (c .before .before .before .before .args .s) fs (c .before .before .before .before .args .left) (c .before .before .word-is .ensures) (c .before .if1 .taken) (c .if2 .taken)
+returns c =
+    let s = c .before .before .before .before in
+    let a = s .args in
+    λ fs. last-one (board (a .b .now)) (a .s) fs (a .left) (c .before .before .word-is .ensures) (c .before .if1 .taken) (c .if2 .taken)
 
 returns-2 : tie.Need-returns-2
-returns-2 c = λ fs. not-last (board (c .before .before .before .before .args .b .now)) (c .before .before .before .before .args .s) fs (c .before .before .before .before .args .left) (c .before .before .word-is .ensures) (c .before .if1 .taken) (c .if2 .left)
+returns-2 c =
+    let s = c .before .before .before .before in
+    let a = s .args in
+    λ fs. not-last (board (a .b .now)) (a .s) fs (a .left) (c .before .before .word-is .ensures) (c .before .if1 .taken) (c .if2 .left)
 
 bound-does-requires : tie.Need-bound-does-requires
 bound-does-requires c κs = search needs
@@ -22,10 +28,18 @@ narrows-requires : tie.Need-narrows-requires
 narrows-requires c κs = search needs
 
 returns-3 : tie.Need-returns-3
-returns-3 c = λ fs. does-narrow (board (c .before .before .before .before .before .before .before .args .b .now)) (c .before .before .before .before .before .before .before .args .s) fs (c .before .before .before .before .before .before .before .args .left) (c .before .before .before .before .before .word-is .ensures) (c .before .before .before .before .if1 .left) (c .before .before .before .before .before .before .before .pre .3) (c .before .before .bound-does .ensures) (c .before .narrows .ensures) (c .if3 .taken)
+returns-3 c =
+    let s = c .before .before .before .before .before .before .before in
+    let a = s .args in
+    λ fs. does-narrow (board (a .b .now)) (a .s) fs (a .left) (c .before .before .before .before .before .word-is .ensures)
+    (c .before .before .before .before .if1 .left) (s .pre .3) (c .before .before .bound-does .ensures) (c .before .narrows .ensures) (c .if3 .taken)
 
 returns-4 : tie.Need-returns-4
-returns-4 c = λ fs. does-not (board (c .before .before .before .before .before .before .before .args .b .now)) (c .before .before .before .before .before .before .before .args .s) fs (c .before .before .before .before .before .before .before .args .left) (c .before .before .before .before .before .word-is .ensures) (c .before .before .before .before .if1 .left) (c .before .before .before .before .before .before .before .pre .3) (c .before .before .bound-does .ensures) (c .before .narrows .ensures) (c .if3 .left)
+returns-4 c =
+    let s = c .before .before .before .before .before .before .before in
+    let a = s .args in
+    λ fs. does-not (board (a .b .now)) (a .s) fs (a .left) (c .before .before .before .before .before .word-is .ensures)
+    (c .before .before .before .before .if1 .left) (s .pre .3) (c .before .before .bound-does .ensures) (c .before .narrows .ensures) (c .if3 .left)
 
 pub does-right-spec : {M : Type 1} → statement M
 does-right-spec =

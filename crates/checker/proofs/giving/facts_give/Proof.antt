@@ -16,10 +16,26 @@ narrow-by-requires : tie.Need-narrow-by-requires
 narrow-by-requires c κs = search needs
 
 rule-gives-requires : tie.Need-rule-gives-requires
-rule-gives-requires c κs = let a = c .before .before .before .before .args in (put-same (a .lags .now) (a .n) (reservoir-of (a .c)) (board (c .before .narrow-by .last .0)) (narrowed (board (c .before .before .before .before .args .wide .now)) (premises-at (c .before .before .before .before .args .list .now) (c .before .before .before .before .args .s .facts) (c .before .before .before .before .args .s .count))) (a .s .rule) (a .e) (a .y) (c .before .narrow-by .ensures .1) (c .before .before .before .before .pre .0), c .before .before .before .before .pre .1, c .before .before .before .before .pre .2)
+rule-gives-requires c κs =
+    let s = c .before .before .before .before in
+    let a = s .args in
+    let a = a in (
+      put-same (a .lags .now) (a .n) (reservoir-of (a .c)) (board (c .before .narrow-by .last .0))
+          (narrowed (board (a .wide .now)) (premises-at (a .list .now) (a .s .facts) (a .s .count))) (a .s .rule) (a .e) (a .y)
+          (c .before .narrow-by .ensures .1) (s .pre .0),
+      s .pre .1,
+      s .pre .2,
+    )
 
 returns : tie.Need-returns
-returns c = λ h sane t. let a = c .before .before .before .before .before .args in let j = job-of h (reservoir-of (a .c)) (a .n) (a .lags .now) in c .rule-gives .ensures h (premises-at (c .before .before .before .before .before .args .list .now) (c .before .before .before .before .before .args .s .facts) (c .before .before .before .before .before .args .s .count)) ∙ gives-agree j (board (c .before .before .narrow-by .last .0)) (narrowed (board (c .before .before .before .before .before .args .wide .now)) (premises-at (c .before .before .before .before .before .args .list .now) (c .before .before .before .before .before .args .s .facts) (c .before .before .before .before .before .args .s .count))) (λ y l k. c .before .before .narrow-by .ensures .1 .same y (let f = sane .few-events in omega arith) k) sane (explanation-of (a .list .now) (a .s)) t
+returns c =
+    let s = c .before .before .before .before .before in
+    let a = s .args in
+    λ h sane t. let a = a in let j = job-of h (reservoir-of (a .c)) (a .n) (a .lags .now) in c .rule-gives .ensures h
+    (premises-at (a .list .now) (a .s .facts) (a .s .count)) ∙ gives-agree j (board (c .before .before .narrow-by .last .0))
+    (narrowed (board (a .wide .now)) (premises-at (a .list .now) (a .s .facts) (a .s .count)))
+    (λ y l k. c .before .before .narrow-by .ensures .1 .same y (let f = sane .few-events in omega arith) k) sane
+    (explanation-of (a .list .now) (a .s)) t
 
 pub facts-give-spec : {M : Type 1} → statement M
 facts-give-spec = tie.close (tie.spec narrow-by-requires rule-gives-requires returns)

@@ -20,13 +20,23 @@ fails-requires : tie.Need-fails-requires
 fails-requires c κs = search needs
 
 returns : tie.Need-returns
-returns c = λ h fs. conflict-given (job-of h (reservoir-of (c .before .before .before .before .before .before .args .c)) (c .before .before .before .before .before .before .args .n) (c .before .before .before .before .before .before .args .lags .now)) (board (c .before .before .before .before .before .before .args .x .now)) (c .before .before .before .before .before .before .args .s) fs (c .before .before .before .before .before .before .pre .1) (c .before .before .before .before .before .before .pre .2) (c .before .before .before .before .before .finding .ensures h) (c .before .before .before .word-is .ensures) (c .before .before .if1 .taken) (c .before .finding-effect .ensures .is) (c .fails .ensures)
+returns c =
+    let s = c .before .before .before .before .before .before in
+    let a = s .args in
+    λ h fs. conflict-given (job-of h (reservoir-of (a .c)) (a .n) (a .lags .now)) (board (a .x .now)) (a .s) fs (s .pre .1) (s .pre .2)
+    (c .before .before .before .before .before .finding .ensures h) (c .before .before .before .word-is .ensures) (c .before .before .if1 .taken)
+    (c .before .finding-effect .ensures .is) (c .fails .ensures)
 
 as-strict-requires : tie.Need-as-strict-requires
 as-strict-requires c κs = search needs
 
 returns-2 : tie.Need-returns-2
-returns-2 c = λ h fs. bound-given (job-of h (reservoir-of (c .before .before .before .before .before .before .args .c)) (c .before .before .before .before .before .before .args .n) (c .before .before .before .before .before .before .args .lags .now)) (board (c .before .before .before .before .before .before .args .x .now)) (c .before .before .before .before .before .before .args .s) fs (c .before .before .before .before .before .before .pre .1) (c .before .before .before .before .before .before .pre .2) (c .before .before .before .before .before .finding .ensures h) (c .before .before .before .word-is .ensures) (c .before .before .if1 .left) (c .as-strict .ensures)
+returns-2 c =
+    let s = c .before .before .before .before .before .before in
+    let a = s .args in
+    λ h fs. bound-given (job-of h (reservoir-of (a .c)) (a .n) (a .lags .now)) (board (a .x .now)) (a .s) fs (s .pre .1) (s .pre .2)
+    (c .before .before .before .before .before .finding .ensures h) (c .before .before .before .word-is .ensures) (c .before .before .if1 .left)
+    (c .as-strict .ensures)
 
 pub rule-gives-spec : {M : Type 1} → statement M
 rule-gives-spec =

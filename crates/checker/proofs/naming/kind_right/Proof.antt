@@ -13,13 +13,20 @@ word-is-requires-2 : tie.Need-word-is-requires-2
 word-is-requires-2 c κs = search needs
 
 returns : tie.Need-returns
-returns c = kind-zero (rule (c .before .before .before .args .r)) (c .before .before .before .args .kind .0) (c .before .before .before .args .value .0) (c .before .before .word-is .ensures) (c .before .if1 .taken) (c .word-is2 .ensures)
+returns c =
+    let s = c .before .before .before in
+    let a = s .args in
+    kind-zero (rule (a .r)) (a .kind .0) (a .value .0) (c .before .before .word-is .ensures) (c .before .if1 .taken) (c .word-is2 .ensures)
 
 gives-bound-requires : tie.Need-gives-bound-requires
 gives-bound-requires c κs = search needs
 
 returns-2 : tie.Need-returns-2
-returns-2 c = kind-none (rule (c .before .before .before .before .args .r)) (c .before .before .before .before .args .kind .0) (c .before .before .before .before .args .value .0) (c .before .before .before .word-is .ensures) (c .before .before .if1 .left) (c .before .gives-bound .ensures) (c .if2 .taken)
+returns-2 c =
+    let s = c .before .before .before .before in
+    let a = s .args in
+    kind-none (rule (a .r)) (a .kind .0) (a .value .0) (c .before .before .before .word-is .ensures) (c .before .before .if1 .left)
+    (c .before .gives-bound .ensures) (c .if2 .taken)
 
 end-kind-requires : tie.Need-end-kind-requires
 end-kind-requires c κs = search needs
@@ -28,7 +35,12 @@ word-is-requires-3 : tie.Need-word-is-requires-3
 word-is-requires-3 c κs = search needs
 
 returns-3 : tie.Need-returns-3
-returns-3 c = kind-own (rule (c .before .before .before .before .before .before .args .r)) (c .before .before .before .before .before .before .args .kind .0) (c .before .before .before .before .before .before .args .value .0) (c .before .before .before .before .before .word-is .ensures) (c .before .before .before .before .if1 .left) (c .before .before .before .gives-bound .ensures) (c .before .before .if2 .left) (c .before .end-kind .ensures) (c .word-is3 .ensures)
+returns-3 c =
+    let s = c .before .before .before .before .before .before in
+    let a = s .args in
+    kind-own (rule (a .r)) (a .kind .0) (a .value .0) (c .before .before .before .before .before .word-is .ensures)
+    (c .before .before .before .before .if1 .left) (c .before .before .before .gives-bound .ensures) (c .before .before .if2 .left)
+    (c .before .end-kind .ensures) (c .word-is3 .ensures)
 
 pub kind-right-spec : {M : Type 1} → statement M
 kind-right-spec =

@@ -11,22 +11,36 @@ lag-event-requires : tie.Need-lag-event-requires
 lag-event-requires c κs = let g = c .before .pre .2 (omega arith) in (omega (arith, g .there), g .a-low)
 
 returns : tie.Need-returns
-returns c = λ h d. target-upper (c .before .before .args .r) (job-of h d (c .before .before .args .n) (c .before .before .args .lags .now)) (c .before .before .args .e) (c .before .before .args .y) (c .before .if1 .taken) (c .lag-event .ensures)
+returns c =
+    let s = c .before .before in
+    let a = s .args in
+    λ h d. target-upper (a .r) (job-of h d (a .n) (a .lags .now)) (a .e) (a .y) (c .before .if1 .taken) (c .lag-event .ensures)
 
 lag-event-requires-2 : tie.Need-lag-event-requires-2
 lag-event-requires-2 c κs = let g = c .before .before .pre .2 (omega arith) in (omega (arith, g .there), g .b-low)
 
 returns-2 : tie.Need-returns-2
-returns-2 c = λ h d. target-lower (c .before .before .before .args .r) (job-of h d (c .before .before .before .args .n) (c .before .before .before .args .lags .now)) (c .before .before .before .args .e) (c .before .before .before .args .y) (c .before .if2 .taken) (c .lag-event2 .ensures)
+returns-2 c =
+    let s = c .before .before .before in
+    let a = s .args in
+    λ h d. target-lower (a .r) (job-of h d (a .n) (a .lags .now)) (a .e) (a .y) (c .before .if2 .taken) (c .lag-event2 .ensures)
 
 variant-requires : tie.Need-variant-requires
 variant-requires c κs = search needs
 
 returns-3 : tie.Need-returns-3
-returns-3 c = λ h d. target-self (c .before .variant .result .mirror) (c .before .variant .result .strict) (c .before .variant .result .family) (job-of h d (c .before .before .before .before .args .n) (c .before .before .before .before .args .lags .now)) (c .before .before .before .before .args .e) (c .before .before .before .before .args .y) (c .before .variant .ensures) (c .if3 .taken)
+returns-3 c =
+    let s = c .before .before .before .before in
+    let a = s .args in
+    λ h d. target-self (c .before .variant .result .mirror) (c .before .variant .result .strict) (c .before .variant .result .family)
+    (job-of h d (a .n) (a .lags .now)) (a .e) (a .y) (c .before .variant .ensures) (c .if3 .taken)
 
 returns-4 : tie.Need-returns-4
-returns-4 c = λ h d. target-any (c .before .variant .result .mirror) (c .before .variant .result .strict) (c .before .variant .result .family) (job-of h d (c .before .before .before .before .args .n) (c .before .before .before .before .args .lags .now)) (c .before .before .before .before .args .e) (c .before .before .before .before .args .y) (c .before .variant .ensures) (c .if3 .left)
+returns-4 c =
+    let s = c .before .before .before .before in
+    let a = s .args in
+    λ h d. target-any (c .before .variant .result .mirror) (c .before .variant .result .strict) (c .before .variant .result .family)
+    (job-of h d (a .n) (a .lags .now)) (a .e) (a .y) (c .before .variant .ensures) (c .if3 .left)
 
 pub target-right-spec : {M : Type 1} → statement M
 target-right-spec =

@@ -28,7 +28,13 @@ loop-less : tie.Need-loop-less Inv-loop μ-loop
 loop-less c = omega arith
 
 loop-again : tie.Need-loop-again Inv-loop μ-loop
-loop-again c = let a = c .before .before .before .before .args in (omega arith, wide-more (c .before .before .before .loop .y) (a .horizon .0) (board (a .b .now)) (c .before .before .before .loop .wide) (c .widen-event .last .1 .1 .1 .0) (omega arith) (c .before .before .before .loop .inv .1) (c .widen-event .ensures))
+loop-again c =
+    let s = c .before .before .before .before in
+    let a = s .args in (
+      omega arith,
+      wide-more (c .before .before .before .loop .y) (a .horizon .0) (board (a .b .now)) (c .before .before .before .loop .wide)
+          (c .widen-event .last .1 .1 .1 .0) (omega arith) (c .before .before .before .loop .inv .1) (c .widen-event .ensures),
+    )
 
 returns : tie.Need-returns Inv-loop μ-loop
 returns c = let a = c .before .before .args in let e : c .before .loop .y ≡ a .n = omega arith in rw (← e) (c .before .loop .inv .1)

@@ -26,7 +26,13 @@ index-requires-2 : tie.Need-index-requires-2
 index-requires-2 c κs = rw (c .before .before .word-at2 .ensures) (c .before .before .before .before .pre .1 .kind-sign)
 
 returns : tie.Need-returns
-returns c = let q = c .before .before .before .before .before .pre .1 in let e = rw (c .before .before .before .before .word-at .ensures) at (c .before .index .ensures) in let k = rw (c .before .before .before .word-at2 .ensures) at (c .index2 .ensures) in record { event = e; kind = k; value = c .before .before .word-at3 .ensures; event-high = rw e (q .event-high); kind-low = rw k (q .kind-low); kind-high = rw k (q .kind-high) }
+returns c =
+    let s = c .before .before .before .before .before in
+    let q = s .pre .1 in
+    let e = rw (c .before .before .before .before .word-at .ensures) at (c .before .index .ensures) in
+    let k = rw (c .before .before .before .word-at2 .ensures) at (c .index2 .ensures) in
+    record
+    { event = e; kind = k; value = c .before .before .word-at3 .ensures; event-high = rw e (q .event-high); kind-low = rw k (q .kind-low); kind-high = rw k (q .kind-high) }
 
 pub fact-at-spec : {M : Type 1} → statement M
 fact-at-spec =

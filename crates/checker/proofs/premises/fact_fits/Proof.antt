@@ -21,7 +21,11 @@ between-requires : tie.Need-between-requires
 between-requires c κs = search needs
 
 returns : tie.Need-returns
-returns c = let a = c .before .before .before .before .before .args in both-tests (a .list .now) (a .n) (a .p) (c .before .before .before .before .word-at .ensures) (c .before .before .before .word-at2 .ensures) (c .before .before .is-event .ensures) (c .before .if1 .taken) (c .between .ensures)
+returns c =
+    let s = c .before .before .before .before .before in
+    let a = s .args in
+    both-tests (a .list .now) (a .n) (a .p) (c .before .before .before .before .word-at .ensures) (c .before .before .before .word-at2 .ensures)
+    (c .before .before .is-event .ensures) (c .before .if1 .taken) (c .between .ensures)
 
 returns-2 : tie.Need-returns-2
 returns-2 c = let a = c .before .before .before .before .args in first-fails (a .list .now) (a .n) (a .p) (c .before .before .before .word-at .ensures) (c .before .is-event .ensures) (c .if1 .left)

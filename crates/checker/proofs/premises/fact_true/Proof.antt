@@ -16,7 +16,11 @@ keeps-requires : tie.Need-keeps-requires
 keeps-requires c κs = search needs
 
 returns : tie.Need-returns
-returns c = let a = c .before .before .before .before .args in true-is-at (board (a .b .now)) (a .list .now) (a .n) (a .p) (c .before .before .before .fact-at .result) (c .before .before .before .fact-at .ensures) (c .before .before .end-at .ensures) (c .keeps .ensures)
+returns c =
+    let s = c .before .before .before .before in
+    let a = s .args in
+    true-is-at (board (a .b .now)) (a .list .now) (a .n) (a .p) (c .before .before .before .fact-at .result)
+    (c .before .before .before .fact-at .ensures) (c .before .before .end-at .ensures) (c .keeps .ensures)
 
 pub fact-true-spec : {M : Type 1} → statement M
 fact-true-spec = tie.close (tie.spec fact-at-requires end-at-requires keeps-requires returns)

@@ -29,7 +29,11 @@ fact-fits-requires : tie.Need-fact-fits-requires Inv-loop μ-loop
 fact-fits-requires c κs = omega arith
 
 returns : tie.Need-returns Inv-loop μ-loop
-returns c = let a = c .before .before .before .before .args in fit-fails (a .list .now) (a .n) (a .p) (a .m) (c .before .before .before .loop .i) (omega arith) (c .before .fact-fits .ensures) (c .if1 .taken) (c .before .before .before .loop .inv .1)
+returns c =
+    let s = c .before .before .before .before in
+    let a = s .args in
+    fit-fails (a .list .now) (a .n) (a .p) (a .m) (c .before .before .before .loop .i) (omega arith) (c .before .fact-fits .ensures) (c .if1 .taken)
+    (c .before .before .before .loop .inv .1)
 
 add-i : tie.Need-add-i Inv-loop μ-loop
 add-i c = omega arith
@@ -38,7 +42,13 @@ loop-less : tie.Need-loop-less Inv-loop μ-loop
 loop-less c = omega arith
 
 loop-again : tie.Need-loop-again Inv-loop μ-loop
-loop-again c = let a = c .before .before .before .before .args in (omega arith, fit-more (a .list .now) (a .n) (a .p) (a .m) (c .before .before .before .loop .i) (omega arith) (c .before .fact-fits .ensures) (c .if1 .left) (c .before .before .before .loop .inv .1))
+loop-again c =
+    let s = c .before .before .before .before in
+    let a = s .args in (
+      omega arith,
+      fit-more (a .list .now) (a .n) (a .p) (a .m) (c .before .before .before .loop .i) (omega arith) (c .before .fact-fits .ensures) (c .if1 .left)
+          (c .before .before .before .loop .inv .1),
+    )
 
 returns-2 : tie.Need-returns-2 Inv-loop μ-loop
 returns-2 c = let a = c .before .before .args in fit-none (a .list .now) (a .n) (a .p) (a .m) (c .before .loop .i) (omega arith) (c .before .loop .inv .1)

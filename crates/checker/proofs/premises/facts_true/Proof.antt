@@ -29,7 +29,11 @@ fact-true-requires : tie.Need-fact-true-requires Inv-loop μ-loop
 fact-true-requires c κs = let a = c .before .before .args in (omega arith, omega arith, named-at (a .list .now) (a .n) (a .p) (a .m) (c .before .loop .i) (omega arith) (c .before .loop .inv .1) .0)
 
 returns : tie.Need-returns Inv-loop μ-loop
-returns c = let a = c .before .before .before .before .args in true-fails (board (a .b .now)) (a .list .now) (a .p) (a .m) (c .before .before .before .loop .i) (omega arith) (c .before .fact-true .ensures) (c .if1 .taken) (c .before .before .before .loop .inv .2)
+returns c =
+    let s = c .before .before .before .before in
+    let a = s .args in
+    true-fails (board (a .b .now)) (a .list .now) (a .p) (a .m) (c .before .before .before .loop .i) (omega arith) (c .before .fact-true .ensures)
+    (c .if1 .taken) (c .before .before .before .loop .inv .2)
 
 add-i : tie.Need-add-i Inv-loop μ-loop
 add-i c = omega arith
@@ -38,7 +42,14 @@ loop-less : tie.Need-loop-less Inv-loop μ-loop
 loop-less c = omega arith
 
 loop-again : tie.Need-loop-again Inv-loop μ-loop
-loop-again c = let a = c .before .before .before .before .args in (omega arith, named-at (a .list .now) (a .n) (a .p) (a .m) (c .before .before .before .loop .i) (omega arith) (c .before .before .before .loop .inv .1) .1, true-more (board (a .b .now)) (a .list .now) (a .p) (a .m) (c .before .before .before .loop .i) (omega arith) (c .before .fact-true .ensures) (c .if1 .left) (c .before .before .before .loop .inv .2))
+loop-again c =
+    let s = c .before .before .before .before in
+    let a = s .args in (
+      omega arith,
+      named-at (a .list .now) (a .n) (a .p) (a .m) (c .before .before .before .loop .i) (omega arith) (c .before .before .before .loop .inv .1) .1,
+      true-more (board (a .b .now)) (a .list .now) (a .p) (a .m) (c .before .before .before .loop .i) (omega arith) (c .before .fact-true .ensures)
+          (c .if1 .left) (c .before .before .before .loop .inv .2),
+    )
 
 returns-2 : tie.Need-returns-2 Inv-loop μ-loop
 returns-2 c = let a = c .before .before .args in true-none (board (a .b .now)) (a .list .now) (a .p) (a .m) (c .before .loop .i) (omega arith) (c .before .loop .inv .2)

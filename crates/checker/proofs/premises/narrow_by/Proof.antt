@@ -31,7 +31,12 @@ fact-at-requires : tie.Need-fact-at-requires Inv-loop μ-loop
 fact-at-requires c κs = let a = c .before .before .args in (omega arith, named-at (a .list .now) (a .n) (a .p) (a .m) (c .before .loop .i) (omega arith) (c .before .loop .inv .1) .0)
 
 tighten-requires : tie.Need-tighten-requires Inv-loop μ-loop
-tighten-requires c κs = (omega (arith, c .before .before .fact-at .ensures), omega (arith, c .before .before .fact-at .ensures), omega (arith, c .before .before .fact-at .ensures), c .before .before .before .before .loop .inv .3)
+tighten-requires c κs = (
+  omega (arith, c .before .before .fact-at .ensures),
+  omega (arith, c .before .before .fact-at .ensures),
+  omega (arith, c .before .before .fact-at .ensures),
+  c .before .before .before .before .loop .inv .3,
+)
 
 add-i : tie.Need-add-i Inv-loop μ-loop
 add-i c = omega arith
@@ -40,10 +45,27 @@ loop-less : tie.Need-loop-less Inv-loop μ-loop
 loop-less c = omega arith
 
 loop-again : tie.Need-loop-again Inv-loop μ-loop
-loop-again c = let a = c .before .before .before .before .before .before .args in (omega arith, named-at (a .list .now) (a .n) (a .p) (a .m) (c .before .before .before .before .before .loop .i) (omega arith) (c .before .before .before .before .before .loop .inv .1) .1, narrowed-more (a .list .now) (a .n) (a .p) (a .m) (c .before .before .before .before .before .loop .i) (board (c .before .before .before .before .before .loop .b)) (narrowed (board (a .b .now)) (premises-at (a .list .now) (a .p) (a .m))) (board (c .tighten .last .0)) (c .before .before .before .fact-at .result) (omega arith) (c .before .before .before .fact-at .ensures) (c .tighten .ensures .1) (c .before .before .before .before .before .loop .inv .2), c .tighten .ensures .0)
+loop-again c =
+    let s = c .before .before .before .before .before .before in
+    let a = s .args in (
+      omega arith,
+      named-at (a .list .now) (a .n) (a .p) (a .m) (c .before .before .before .before .before .loop .i) (omega arith)
+          (c .before .before .before .before .before .loop .inv .1) .1,
+      narrowed-more (a .list .now) (a .n) (a .p) (a .m) (c .before .before .before .before .before .loop .i)
+          (board (c .before .before .before .before .before .loop .b)) (narrowed (board (a .b .now)) (premises-at (a .list .now) (a .p) (a .m)))
+          (board (c .tighten .last .0)) (c .before .before .before .fact-at .result) (omega arith) (c .before .before .before .fact-at .ensures)
+          (c .tighten .ensures .1) (c .before .before .before .before .before .loop .inv .2),
+      c .tighten .ensures .0,
+    )
 
 returns : tie.Need-returns Inv-loop μ-loop
-returns c = let a = c .before .before .args in (c .before .loop .inv .3, narrowed-none (a .list .now) (a .n) (a .p) (a .m) (c .before .loop .i) (board (c .before .loop .b)) (narrowed (board (a .b .now)) (premises-at (a .list .now) (a .p) (a .m))) (omega arith) (c .before .loop .inv .2))
+returns c =
+    let s = c .before .before in
+    let a = s .args in (
+      c .before .loop .inv .3,
+      narrowed-none (a .list .now) (a .n) (a .p) (a .m) (c .before .loop .i) (board (c .before .loop .b))
+          (narrowed (board (a .b .now)) (premises-at (a .list .now) (a .p) (a .m))) (omega arith) (c .before .loop .inv .2),
+    )
 
 pub narrow-by-spec : {M : Type 1} → statement M
 narrow-by-spec =

@@ -16,7 +16,10 @@ keeps-requires : tie.Need-keeps-requires
 keeps-requires c κs = search needs
 
 returns : tie.Need-returns
-returns c = let a = c .before .before .before .before .args in (c .before .before .before .before .pre .3, keeps-same (a .b .now) (a .y) (a .kind) (a .v .0) (c .before .before .end-at .ensures) (c .before .keeps .ensures) (c .if1 .taken))
+returns c =
+    let s = c .before .before .before .before in
+    let a = s .args in
+    (s .pre .3, keeps-same (a .b .now) (a .y) (a .kind) (a .v .0) (c .before .before .end-at .ensures) (c .before .keeps .ensures) (c .if1 .taken))
 
 sub-w : tie.Need-sub-w
 sub-w c = search needs
@@ -34,7 +37,14 @@ element-set-from-w : tie.Need-element-set-from-w
 element-set-from-w c = search needs
 
 returns-2 : tie.Need-returns-2
-returns-2 c = let a = c .before .before .before .before .before .args in (simp length-set (c .before .before .before .before .before .pre .3), rw (back32 (a .v .0) (search)) (breaks-same (a .b .now) (c .before .before .before .before .before .pre .3) (a .y) (a .kind) (a .v .0) (omega arith) (omega arith) (omega arith) (c .before .before .before .end-at .ensures) (c .before .before .keeps .ensures) (c .before .if1 .left)))
+returns-2 c =
+    let s = c .before .before .before .before .before in
+    let a = s .args in (
+      simp length-set (s .pre .3),
+      rw (back32 (a .v .0) (search))
+          (breaks-same (a .b .now) (s .pre .3) (a .y) (a .kind) (a .v .0) (omega arith) (omega arith) (omega arith)
+          (c .before .before .before .end-at .ensures) (c .before .before .keeps .ensures) (c .before .if1 .left)),
+    )
 
 pub tighten-spec : {M : Type 1} → statement M
 tighten-spec =

@@ -9,7 +9,10 @@ word-is-requires : tie.Need-word-is-requires
 word-is-requires c κs = search needs
 
 returns : tie.Need-returns
-returns c = λ fs. none-made (c .before .before .before .args .n) (c .before .before .before .args .b .now) (c .before .before .before .pre .1) (c .before .before .before .args .s) fs (c .before .word-is .ensures) (c .if1 .taken)
+returns c =
+    let s = c .before .before .before in
+    let a = s .args in
+    λ fs. none-made (a .n) (a .b .now) (s .pre .1) (a .s) fs (c .before .word-is .ensures) (c .if1 .taken)
 
 index-requires : tie.Need-index-requires
 index-requires c κs = search needs
@@ -21,7 +24,13 @@ store-requires : tie.Need-store-requires
 store-requires c κs = search needs
 
 returns-2 : tie.Need-returns-2
-returns-2 c = λ fs. let q = c .before .before .before .before .before .before .before .before .before .pre .0 in one-made (c .before .before .before .before .before .before .before .before .before .args .n) (c .before .before .before .before .before .before .before .before .before .args .b .now) (c .before .before .before .before .before .before .before .before .before .pre .1) (c .before .before .before .before .before .before .before .before .before .args .s) fs (c .before .before .before .before .before .before .before .word-is .ensures) (c .before .before .before .index .result) (c .before .before .end-kind .result) (c .before .before .before .before .before .before .if1 .left) (c .before .before .end-kind .ensures) (c .before .before .before .index .ensures) (rw (c .before .before .before .index .ensures) (q .event)) (q .few) (c .store .ensures)
+returns-2 c =
+    let s = c .before .before .before .before .before .before .before .before .before in
+    let a = s .args in
+    λ fs. let q = s .pre .0 in one-made (a .n) (a .b .now) (s .pre .1) (a .s) fs
+    (c .before .before .before .before .before .before .before .word-is .ensures) (c .before .before .before .index .result)
+    (c .before .before .end-kind .result) (c .before .before .before .before .before .before .if1 .left) (c .before .before .end-kind .ensures)
+    (c .before .before .before .index .ensures) (rw (c .before .before .before .index .ensures) (q .event)) (q .few) (c .store .ensures)
 
 pub apply-spec : {M : Type 1} → statement M
 apply-spec =

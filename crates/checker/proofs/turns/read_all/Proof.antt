@@ -29,13 +29,37 @@ sub-take-slip-2 : tie.Need-sub-take-slip-2 Inv-loop μ-loop
 sub-take-slip-2 c = omega arith
 
 take-slip-requires : tie.Need-take-slip-requires Inv-loop μ-loop
-take-slip-requires c κs = let l = c .before .before .loop .inv in (ready (c .before .before .before .args .horizon .0) (c .before .before .before .args .lags .now) (c .before .before .before .args .list .now) (c .before .before .before .args .n) (c .before .before .before .args .stop) (c .before .before .before .args .count) (reservoir-of (c .before .before .before .args .c)) (c .before .before .before .args .wide .now) (c .before .before .before .args .b .now) (c .before .before .before .pre .0) (c .before .before .loop .b) (c .before .before .loop .i) (c .before .before .loop .p) (c .before .before .loop .last) (c .before .before .loop .conflict) (c .before .before .loop .inv), l .whole, l .before-stop, c .before .before .before .pre .1)
+take-slip-requires c κs =
+    let s = c .before .before .before in
+    let a = s .args in
+    let l = c .before .before .loop .inv in (
+      ready (a .horizon .0) (a .lags .now) (a .list .now) (a .n) (a .stop) (a .count) (reservoir-of (a .c)) (a .wide .now) (a .b .now) (s .pre .0)
+          (c .before .before .loop .b) (c .before .before .loop .i) (c .before .before .loop .p) (c .before .before .loop .last)
+          (c .before .before .loop .conflict) (c .before .before .loop .inv),
+      l .whole,
+      l .before-stop,
+      s .pre .1,
+    )
 
 enum-known-step : tie.Need-enum-known-step Inv-loop μ-loop
 enum-known-step c = search needs
 
 returns : tie.Need-returns Inv-loop μ-loop
-returns c = refuses (c .before .before .before .before .before .before .before .args .horizon .0) (c .before .before .before .before .before .before .before .args .lags .now) (c .before .before .before .before .before .before .before .args .list .now) (c .before .before .before .before .before .before .before .args .n) (c .before .before .before .before .before .before .before .args .stop) (c .before .before .before .before .before .before .before .args .count) (reservoir-of (c .before .before .before .before .before .before .before .args .c)) (c .before .before .before .before .before .before .before .args .wide .now) (c .before .before .before .before .before .before .before .args .b .now) (c .before .before .before .before .before .before .before .pre .0) (c .before .before .before .before .before .before .loop .b) (c .before .before .before .before .before .before .loop .i) (c .before .before .before .before .before .before .loop .p) (c .before .before .before .before .before .before .loop .last) (c .before .before .before .before .before .before .loop .conflict) (c .before .before .before .before .before .before .loop .inv) (c .before .before .before .take-slip .last .0) (c .before .step .given .0 .0) (omega arith) (stepped-as (c .before .before .before .before .before .before .before .args .n) (turn (job-of (c .before .before .before .before .before .before .before .args .horizon .0) (reservoir-of (c .before .before .before .before .before .before .before .args .c)) (c .before .before .before .before .before .before .before .args .n) (c .before .before .before .before .before .before .before .args .lags .now)) (board (c .before .before .before .before .before .before .before .args .wide .now)) (board (c .before .before .before .before .before .before .loop .b)) (c .before .before .before .before .before .before .before .args .list .now) (c .before .before .before .before .before .before .before .args .stop) (c .before .before .before .before .before .before .loop .p) (c .before .before .before .before .before .before .before .args .count - c .before .before .before .before .before .before .loop .i - 1)) (c .before .before .before .before .before .before .loop .b) (c .before .before .before .take-slip .last .0) (c .before .before .before .before .before .before .before .args .stop) (c .before .before .before .take-slip .result) (No (c .before .step .given .0 .0)) (c .before .step .given .1) (c .before .before .before .take-slip .ensures (c .before .before .before .before .before .before .before .pre .0 .sane)))
+returns c =
+    let s = c .before .before .before .before .before .before .before in
+    let a = s .args in
+    refuses (a .horizon .0) (a .lags .now) (a .list .now) (a .n) (a .stop) (a .count) (reservoir-of (a .c)) (a .wide .now) (a .b .now) (s .pre .0)
+    (c .before .before .before .before .before .before .loop .b) (c .before .before .before .before .before .before .loop .i)
+    (c .before .before .before .before .before .before .loop .p) (c .before .before .before .before .before .before .loop .last)
+    (c .before .before .before .before .before .before .loop .conflict) (c .before .before .before .before .before .before .loop .inv)
+    (c .before .before .before .take-slip .last .0) (c .before .step .given .0 .0) (omega arith)
+    (stepped-as (a .n)
+    (turn (job-of (a .horizon .0) (reservoir-of (a .c)) (a .n) (a .lags .now)) (board (a .wide .now))
+    (board (c .before .before .before .before .before .before .loop .b)) (a .list .now) (a .stop)
+    (c .before .before .before .before .before .before .loop .p) (a .count - c .before .before .before .before .before .before .loop .i - 1))
+    (c .before .before .before .before .before .before .loop .b) (c .before .before .before .take-slip .last .0) (a .stop)
+    (c .before .before .before .take-slip .result) (No (c .before .step .given .0 .0)) (c .before .step .given .1)
+    (c .before .before .before .take-slip .ensures (s .pre .0 .sane)))
 
 enum-known-step-2 : tie.Need-enum-known-step-2 Inv-loop μ-loop
 enum-known-step-2 c = search needs
@@ -47,10 +71,32 @@ loop-less : tie.Need-loop-less Inv-loop μ-loop
 loop-less c = omega arith
 
 loop-again : tie.Need-loop-again Inv-loop μ-loop
-loop-again c = goes-on (c .before .before .before .before .before .before .before .args .horizon .0) (c .before .before .before .before .before .before .before .args .lags .now) (c .before .before .before .before .before .before .before .args .list .now) (c .before .before .before .before .before .before .before .args .n) (c .before .before .before .before .before .before .before .args .stop) (c .before .before .before .before .before .before .before .args .count) (reservoir-of (c .before .before .before .before .before .before .before .args .c)) (c .before .before .before .before .before .before .before .args .wide .now) (c .before .before .before .before .before .before .before .args .b .now) (c .before .before .before .before .before .before .before .pre .0) (c .before .before .before .before .before .before .loop .b) (c .before .before .before .before .before .before .loop .i) (c .before .before .before .before .before .before .loop .p) (c .before .before .before .before .before .before .loop .last) (c .before .before .before .before .before .before .loop .conflict) (c .before .before .before .before .before .before .loop .inv) (c .before .before .before .take-slip .last .0) (c .before .step2 .given .0 .0) (c .before .step2 .given .0 .1 .0) (omega arith) (stepped-as (c .before .before .before .before .before .before .before .args .n) (turn (job-of (c .before .before .before .before .before .before .before .args .horizon .0) (reservoir-of (c .before .before .before .before .before .before .before .args .c)) (c .before .before .before .before .before .before .before .args .n) (c .before .before .before .before .before .before .before .args .lags .now)) (board (c .before .before .before .before .before .before .before .args .wide .now)) (board (c .before .before .before .before .before .before .loop .b)) (c .before .before .before .before .before .before .before .args .list .now) (c .before .before .before .before .before .before .before .args .stop) (c .before .before .before .before .before .before .loop .p) (c .before .before .before .before .before .before .before .args .count - c .before .before .before .before .before .before .loop .i - 1)) (c .before .before .before .before .before .before .loop .b) (c .before .before .before .take-slip .last .0) (c .before .before .before .before .before .before .before .args .stop) (c .before .before .before .take-slip .result) (On (c .before .step2 .given .0 .0) (c .before .step2 .given .0 .1 .0)) (c .before .step2 .given .1) (c .before .before .before .take-slip .ensures (c .before .before .before .before .before .before .before .pre .0 .sane)))
+loop-again c =
+    let s = c .before .before .before .before .before .before .before in
+    let a = s .args in
+    goes-on (a .horizon .0) (a .lags .now) (a .list .now) (a .n) (a .stop) (a .count) (reservoir-of (a .c)) (a .wide .now) (a .b .now) (s .pre .0)
+    (c .before .before .before .before .before .before .loop .b) (c .before .before .before .before .before .before .loop .i)
+    (c .before .before .before .before .before .before .loop .p) (c .before .before .before .before .before .before .loop .last)
+    (c .before .before .before .before .before .before .loop .conflict) (c .before .before .before .before .before .before .loop .inv)
+    (c .before .before .before .take-slip .last .0) (c .before .step2 .given .0 .0) (c .before .step2 .given .0 .1 .0) (omega arith)
+    (stepped-as (a .n)
+    (turn (job-of (a .horizon .0) (reservoir-of (a .c)) (a .n) (a .lags .now)) (board (a .wide .now))
+    (board (c .before .before .before .before .before .before .loop .b)) (a .list .now) (a .stop)
+    (c .before .before .before .before .before .before .loop .p) (a .count - c .before .before .before .before .before .before .loop .i - 1))
+    (c .before .before .before .before .before .before .loop .b) (c .before .before .before .take-slip .last .0) (a .stop)
+    (c .before .before .before .take-slip .result) (On (c .before .step2 .given .0 .0) (c .before .step2 .given .0 .1 .0))
+    (c .before .step2 .given .1) (c .before .before .before .take-slip .ensures (s .pre .0 .sane)))
 
 returns-2 : tie.Need-returns-2 Inv-loop μ-loop
-returns-2 c = (finishes (c .before .before .args .horizon .0) (c .before .before .args .lags .now) (c .before .before .args .list .now) (c .before .before .args .n) (c .before .before .args .stop) (c .before .before .args .count) (reservoir-of (c .before .before .args .c)) (c .before .before .args .wide .now) (c .before .before .args .b .now) (c .before .before .pre .0) (c .before .loop .b) (c .before .loop .i) (c .before .loop .p) (c .before .loop .last) (c .before .loop .conflict) (c .before .loop .inv) (omega arith), c .before .loop .inv .whole, c .before .loop .inv .last-in)
+returns-2 c =
+    let s = c .before .before in
+    let a = s .args in (
+      finishes (a .horizon .0) (a .lags .now) (a .list .now) (a .n) (a .stop) (a .count) (reservoir-of (a .c)) (a .wide .now) (a .b .now) (s .pre .0)
+          (c .before .loop .b) (c .before .loop .i) (c .before .loop .p) (c .before .loop .last) (c .before .loop .conflict) (c .before .loop .inv)
+          (omega arith),
+      c .before .loop .inv .whole,
+      c .before .loop .inv .last-in,
+    )
 
 pub read-all-spec : {M : Type 1} → statement M
 read-all-spec =

@@ -19,19 +19,70 @@ enum-told : tie.Need-enum-told
 enum-told c = search needs
 
 returns : tie.Need-returns
-returns c = λ sane. let h = c .before .before .before .args .horizon .0 in turn-cut (job-of h (reservoir-of (c .before .before .before .args .c)) (c .before .before .before .args .n) (c .before .before .before .args .lags .now)) (board (c .before .before .before .args .wide .now)) (board (c .before .before .before .args .b .now)) (c .before .before .before .args .list .now) (c .before .before .before .args .stop) (c .before .before .before .args .p) (c .before .before .before .args .left) (c .before .before .read-slip .result) (c .before .before .read-slip .ensures .0) (c .enum-told .given .1)
+returns c =
+    let s = c .before .before .before in
+    let a = s .args in
+    λ sane. let h = a .horizon .0 in turn-cut (job-of h (reservoir-of (a .c)) (a .n) (a .lags .now)) (board (a .wide .now)) (board (a .b .now))
+    (a .list .now) (a .stop) (a .p) (a .left) (c .before .before .read-slip .result) (c .before .before .read-slip .ensures .0)
+    (c .enum-told .given .1)
 
 slip-questions-requires : tie.Need-slip-questions-requires
-slip-questions-requires c κs = (c .before .before .before .before .before .pre .0, placed-of (c .before .before .before .before .before .args .list .now) (c .before .before .before .before .before .args .stop) (c .before .before .before .before .read-slip .result) (c .before .before .read .given .0 .0) (c .before .before .read .given .0 .1 .0) (c .before .before .before .before .read-slip .ensures .1) (c .before .before .read .given .1) .0)
+slip-questions-requires c κs =
+    let s = c .before .before .before .before .before in
+    let a = s .args in (
+      s .pre .0,
+      placed-of (a .list .now) (a .stop) (c .before .before .before .before .read-slip .result) (c .before .before .read .given .0 .0)
+          (c .before .before .read .given .0 .1 .0) (c .before .before .before .before .read-slip .ensures .1) (c .before .before .read .given .1) .0,
+    )
 
 returns-2 : tie.Need-returns-2
-returns-2 c = λ sane. let h = c .before .before .before .before .before .before .before .args .horizon .0 in turn-no (job-of h (reservoir-of (c .before .before .before .before .before .before .before .args .c)) (c .before .before .before .before .before .before .before .args .n) (c .before .before .before .before .before .before .before .args .lags .now)) (board (c .before .before .before .before .before .before .before .args .wide .now)) (board (c .before .before .before .before .before .before .before .args .b .now)) (c .before .before .before .before .before .before .before .args .list .now) (c .before .before .before .before .before .before .before .args .stop) (c .before .before .before .before .before .before .before .args .p) (c .before .before .before .before .before .before .before .args .left) (c .before .before .before .before .before .before .read-slip .result) (c .before .before .before .before .before .before .read-slip .ensures .0) (c .before .before .before .before .read .given .0 .0) (c .before .before .before .before .read .given .0 .1 .0) (c .before .before .before .before .read .given .1) (c .before .slip-questions .result) (c .if1 .taken) (c .before .slip-questions .ensures h sane)
+returns-2 c =
+    let s = c .before .before .before .before .before .before .before in
+    let a = s .args in
+    λ sane. let h = a .horizon .0 in turn-no (job-of h (reservoir-of (a .c)) (a .n) (a .lags .now)) (board (a .wide .now)) (board (a .b .now))
+    (a .list .now) (a .stop) (a .p) (a .left) (c .before .before .before .before .before .before .read-slip .result)
+    (c .before .before .before .before .before .before .read-slip .ensures .0) (c .before .before .before .before .read .given .0 .0)
+    (c .before .before .before .before .read .given .0 .1 .0) (c .before .before .before .before .read .given .1) (c .before .slip-questions .result)
+    (c .if1 .taken) (c .before .slip-questions .ensures h sane)
 
 apply-requires : tie.Need-apply-requires
-apply-requires c κs = let q = c .before .before .before .before .before .before .before .before .pre .0 in let h = q .horizon in (applies-is (job-of h (reservoir-of (c .before .before .before .before .before .before .before .before .args .c)) (c .before .before .before .before .before .before .before .before .args .n) (c .before .before .before .before .before .before .before .before .args .lags .now)) (board (c .before .before .before .before .before .before .before .before .args .wide .now)) (board (c .before .before .before .before .before .before .before .before .args .b .now)) (c .before .before .before .before .before .before .before .before .args .list .now) (c .before .before .before .before .before .read .given .0 .0) (c .before .before .before .before .before .before .before .before .args .left) (q .range .few) (placed-of (c .before .before .before .before .before .before .before .before .args .list .now) (c .before .before .before .before .before .before .before .before .args .stop) (c .before .before .before .before .before .before .before .read-slip .result) (c .before .before .before .before .before .read .given .0 .0) (c .before .before .before .before .before .read .given .0 .1 .0) (c .before .before .before .before .before .before .before .read-slip .ensures .1) (c .before .before .before .before .before .read .given .1) .0) (passes (c .before .if1 .left) (c .before .before .slip-questions .ensures h (q .sane))), c .before .before .before .before .before .before .before .before .pre .1)
+apply-requires c κs =
+    let s = c .before .before .before .before .before .before .before .before in
+    let a = s .args in
+    let q = s .pre .0 in
+    let h = q .horizon in (
+      applies-is (job-of h (reservoir-of (a .c)) (a .n) (a .lags .now)) (board (a .wide .now)) (board (a .b .now)) (a .list .now)
+          (c .before .before .before .before .before .read .given .0 .0) (a .left) (q .range .few)
+          (placed-of (a .list .now) (a .stop) (c .before .before .before .before .before .before .before .read-slip .result)
+          (c .before .before .before .before .before .read .given .0 .0) (c .before .before .before .before .before .read .given .0 .1 .0)
+          (c .before .before .before .before .before .before .before .read-slip .ensures .1) (c .before .before .before .before .before .read .given .1) .0)
+          (passes (c .before .if1 .left) (c .before .before .slip-questions .ensures h (q .sane))),
+      s .pre .1,
+    )
 
 returns-3 : tie.Need-returns-3
-returns-3 c = λ sane. let h = c .before .before .before .before .before .before .before .before .before .args .horizon .0 in let k = c .apply .ensures (premises-at (c .before .before .before .before .before .before .before .before .before .args .list .now) (c .before .before .before .before .before .before .read .given .0 .0 .facts) (c .before .before .before .before .before .before .read .given .0 .0 .count)) in (explanation-of (c .before .before .before .before .before .before .before .before .before .args .list .now) (c .before .before .before .before .before .before .read .given .0 .0), turn-on (job-of h (reservoir-of (c .before .before .before .before .before .before .before .before .before .args .c)) (c .before .before .before .before .before .before .before .before .before .args .n) (c .before .before .before .before .before .before .before .before .before .args .lags .now)) (board (c .before .before .before .before .before .before .before .before .before .args .wide .now)) (board (c .before .before .before .before .before .before .before .before .before .args .b .now)) (c .before .before .before .before .before .before .before .before .before .args .list .now) (c .before .before .before .before .before .before .before .before .before .args .stop) (c .before .before .before .before .before .before .before .before .before .args .p) (c .before .before .before .before .before .before .before .before .before .args .left) (c .before .before .before .before .before .before .before .before .read-slip .result) (c .before .before .before .before .before .before .before .before .read-slip .ensures .0) (c .before .before .before .before .before .before .read .given .0 .0) (c .before .before .before .before .before .before .read .given .0 .1 .0) (c .before .before .before .before .before .before .read .given .1) (c .before .before .before .slip-questions .result) (c .before .before .if1 .left) (c .before .before .before .slip-questions .ensures h sane), k .0, k .2, k .1, placed-of (c .before .before .before .before .before .before .before .before .before .args .list .now) (c .before .before .before .before .before .before .before .before .before .args .stop) (c .before .before .before .before .before .before .before .before .read-slip .result) (c .before .before .before .before .before .before .read .given .0 .0) (c .before .before .before .before .before .before .read .given .0 .1 .0) (c .before .before .before .before .before .before .before .before .read-slip .ensures .1) (c .before .before .before .before .before .before .read .given .1) .1)
+returns-3 c =
+    let s = c .before .before .before .before .before .before .before .before .before in
+    let a = s .args in
+    λ sane. let h = a .horizon .0 in let k = c .apply .ensures
+    (premises-at (a .list .now) (c .before .before .before .before .before .before .read .given .0 .0 .facts)
+    (c .before .before .before .before .before .before .read .given .0 .0 .count))
+    in (
+      explanation-of (a .list .now) (c .before .before .before .before .before .before .read .given .0 .0),
+      turn-on (job-of h (reservoir-of (a .c)) (a .n) (a .lags .now)) (board (a .wide .now)) (board (a .b .now)) (a .list .now) (a .stop) (a .p)
+          (a .left) (c .before .before .before .before .before .before .before .before .read-slip .result)
+          (c .before .before .before .before .before .before .before .before .read-slip .ensures .0)
+          (c .before .before .before .before .before .before .read .given .0 .0) (c .before .before .before .before .before .before .read .given .0 .1 .0)
+          (c .before .before .before .before .before .before .read .given .1) (c .before .before .before .slip-questions .result)
+          (c .before .before .if1 .left) (c .before .before .before .slip-questions .ensures h sane),
+      k .0,
+      k .2,
+      k .1,
+      placed-of (a .list .now) (a .stop) (c .before .before .before .before .before .before .before .before .read-slip .result)
+          (c .before .before .before .before .before .before .read .given .0 .0) (c .before .before .before .before .before .before .read .given .0 .1 .0)
+          (c .before .before .before .before .before .before .before .before .read-slip .ensures .1)
+          (c .before .before .before .before .before .before .read .given .1) .1,
+    )
 
 pub take-slip-spec : {M : Type 1} → statement M
 take-slip-spec =

@@ -17,7 +17,10 @@ is-idle-requires : tie.Need-is-idle-requires
 is-idle-requires c κs = search needs
 
 returns-2 : tie.Need-returns-2
-returns-2 c = let s = c .before .before .before .before .before .before in attempt-idle (s .pre .0) (s .pre .1) (s .pre .2) (c .before .before .before .before .before .is-running .ensures) (c .before .before .before .before .if1 .left) (c .before .before .effect .ensures) (c .before .is-idle .ensures) (c .if2 .taken)
+returns-2 c =
+    let s = c .before .before .before .before .before .before in
+    attempt-idle (s .pre .0) (s .pre .1) (s .pre .2) (c .before .before .before .before .before .is-running .ensures)
+    (c .before .before .before .before .if1 .left) (c .before .before .effect .ensures) (c .before .is-idle .ensures) (c .if2 .taken)
 
 act-requires : tie.Need-act-requires
 act-requires c κs = search needs
@@ -26,7 +29,11 @@ same-length : tie.Need-same-length
 same-length c = search needs
 
 returns-3 : tie.Need-returns-3
-returns-3 c = let s = c .before .before .before .before .before .before .before .before .before .before in attempt-acts (s .pre .0) (s .pre .1) (s .pre .2) (c .before .before .before .before .before .before .before .before .before .is-running .ensures) (c .before .before .before .before .before .before .before .before .if1 .left) (c .before .before .before .before .before .before .effect .ensures) (c .before .act .ensures)
+returns-3 c =
+    let s = c .before .before .before .before .before .before .before .before .before .before in
+    attempt-acts (s .pre .0) (s .pre .1) (s .pre .2) (c .before .before .before .before .before .before .before .before .before .is-running .ensures)
+    (c .before .before .before .before .before .before .before .before .if1 .left)
+    (c .before .before .before .before .before .before .effect .ensures) (c .before .act .ensures)
 
 pub attempt-spec : {M : Type 1} → statement M
 attempt-spec =

@@ -28,7 +28,10 @@ same-length-2 : tie.Need-same-length-2
 same-length-2 c = search needs
 
 returns : tie.Need-returns
-returns c = outcome (c .before .before .before .before .before .before .before .before .before .before .before .before .before .load .ensures) (c .before .before .before .before .before .before .before .before .before .before .run .ensures) (c .before .before .before .before .before .before .append-trailer .ensures) (c .before .before .unload .ensures) (c .answer .ensures)
+returns c =
+    outcome (c .before .before .before .before .before .before .before .before .before .before .before .before .before .load .ensures)
+    (c .before .before .before .before .before .before .before .before .before .before .run .ensures)
+    (c .before .before .before .before .before .before .append-trailer .ensures) (c .before .before .unload .ensures) (c .answer .ensures)
 
 pub planned-spec : {M : Type 1} → statement M
 planned-spec =

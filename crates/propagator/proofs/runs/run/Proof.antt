@@ -36,19 +36,27 @@ same-length : tie.Need-same-length Inv-loop μ-loop
 same-length c = c .before .before .before .before .round .ensures .grown .same ∙ c .before .before .before .before .before .before .before .loop .inv .grown .same
 
 returns : tie.Need-returns Inv-loop μ-loop
-returns c = rolling-ends (c .before .before .before .before .before .before .before .loop .inv) (c .before .before .before .before .round .ensures) (c .before .before .is-running .ensures) (c .before .if1 .taken) (c .verdict .ensures)
+returns c =
+    rolling-ends (c .before .before .before .before .before .before .before .loop .inv) (c .before .before .before .before .round .ensures)
+    (c .before .before .is-running .ensures) (c .before .if1 .taken) (c .verdict .ensures)
 
 same-length-2 : tie.Need-same-length-2 Inv-loop μ-loop
 same-length-2 c = c .before .before .before .before .before .before .round .ensures .grown .same ∙ c .before .before .before .before .before .before .before .before .before .loop .inv .grown .same
 
 returns-2 : tie.Need-returns-2 Inv-loop μ-loop
-returns-2 c = rolling-settles (c .before .before .before .before .before .before .before .before .before .loop .inv) (c .before .before .before .before .before .before .round .ensures) (c .before .before .before .before .is-running .ensures) (c .before .before .before .if1 .left) (c .if2 .taken)
+returns-2 c =
+    rolling-settles (c .before .before .before .before .before .before .before .before .before .loop .inv)
+    (c .before .before .before .before .before .before .round .ensures) (c .before .before .before .before .is-running .ensures)
+    (c .before .before .before .if1 .left) (c .if2 .taken)
 
 loop-less : tie.Need-loop-less Inv-loop μ-loop
 loop-less c = omega (arith, c .before .before .before .before .before .before .round .ensures .grown, c .before .before .before .before .before .before .before .before .before .loop .inv .grown)
 
 loop-again : tie.Need-loop-again Inv-loop μ-loop
-loop-again c = rolling-on (c .before .before .before .before .before .before .before .before .before .loop .inv) (c .before .before .before .before .before .before .round .ensures) (c .before .before .before .before .is-running .ensures) (c .before .before .before .if1 .left) (c .if2 .left)
+loop-again c =
+    rolling-on (c .before .before .before .before .before .before .before .before .before .loop .inv)
+    (c .before .before .before .before .before .before .round .ensures) (c .before .before .before .before .is-running .ensures)
+    (c .before .before .before .if1 .left) (c .if2 .left)
 
 pub run-spec : {M : Type 1} → statement M
 run-spec =

@@ -17,7 +17,10 @@ returns : tie.Need-returns
 returns c = let a = c .before .before .args in gives-upper (reservoir-of (a .c)) (a .n) (a .lags .now) (board (a .b .now)) (a .r) (a .e) (a .y) (c .before .if1 .taken) (c .lag-upper .ensures)
 
 lag-lower-requires : tie.Need-lag-lower-requires
-lag-lower-requires c κs = let s = c .before .before in let l = s .pre .lag (omega arith) in (more-events (s .pre .windows .few) l, s .pre .windows .range (natAbs (lag-at (s .args .lags .now) (s .args .e) 0)) (l .a-high) t-min)
+lag-lower-requires c κs =
+    let s = c .before .before in
+    let l = s .pre .lag (omega arith) in
+    (more-events (s .pre .windows .few) l, s .pre .windows .range (natAbs (lag-at (s .args .lags .now) (s .args .e) 0)) (l .a-high) t-min)
 
 returns-2 : tie.Need-returns-2
 returns-2 c = let a = c .before .before .before .args in gives-lower (reservoir-of (a .c)) (a .n) (a .lags .now) (board (a .b .now)) (a .r) (a .e) (a .y) (c .before .if2 .taken) (c .lag-lower .ensures)

@@ -18,10 +18,19 @@ number-requires-2 : tie.Need-number-requires-2
 number-requires-2 c κs = search needs
 
 put-word-requires-2 : tie.Need-put-word-requires-2
-put-word-requires-2 c κs = let p = rw (c .before .before .before .before .before .before .if1 .taken) at (c .before .before .before .before .before .before .before .pre .0) in let e = c .before .before .before .put-word .ensures in omega arith
+put-word-requires-2 c κs =
+    let s = c .before .before .before .before .before .before .before in
+    let p = rw (c .before .before .before .before .before .before .if1 .taken) at (s .pre .0) in
+    let e = c .before .before .before .put-word .ensures in
+    omega arith
 
 put-word-requires-3 : tie.Need-put-word-requires-3
-put-word-requires-3 c κs = let p = rw (c .before .before .before .before .before .before .before .before .before .if1 .taken) at (c .before .before .before .before .before .before .before .before .before .before .pre .0) in let e = c .before .before .before .before .before .before .put-word .ensures in let g = c .before .before .put-word2 .ensures in omega arith
+put-word-requires-3 c κs =
+    let s = c .before .before .before .before .before .before .before .before .before .before in
+    let p = rw (c .before .before .before .before .before .before .before .before .before .if1 .taken) at (s .pre .0) in
+    let e = c .before .before .before .before .before .before .put-word .ensures in
+    let g = c .before .before .put-word2 .ensures in
+    omega arith
 
 same-length : tie.Need-same-length
 same-length c = search needs

@@ -38,7 +38,16 @@ loop-less : tie.Need-loop-less Inv-loop μ-loop
 loop-less c = search needs
 
 loop-again : tie.Need-loop-again Inv-loop μ-loop
-loop-again c = (search needs, search needs, ap (λ (k : ℕ). folded k (drop (c .before .before .before .loop .i + 1) (c .before .before .before .before .args .words .now))) (c .mix .ensures .0) ∙ rw (back32 (getD (c .before .before .before .before .args .words .now) (c .before .before .before .loop .i) (pos 0)) (search)) (sym (folded-more (c .before .before .before .loop .sum) (c .before .before .before .loop .i) (c .before .before .before .before .args .words .now) (omega arith)) ∙ c .before .before .before .loop .inv .2))
+loop-again c =
+    let s = c .before .before .before .before in
+    let a = s .args in (
+      search needs,
+      search needs,
+      ap (λ (k : ℕ). folded k (drop (c .before .before .before .loop .i + 1) (a .words .now))) (c .mix .ensures .0) ∙ rw
+          (back32 (getD (a .words .now) (c .before .before .before .loop .i) (pos 0)) (search))
+          (sym (folded-more (c .before .before .before .loop .sum) (c .before .before .before .loop .i) (a .words .now) (omega arith)) ∙
+          c .before .before .before .loop .inv .2),
+    )
 
 returns : tie.Need-returns Inv-loop μ-loop
 returns c = sym (folded-end (c .before .loop .sum) (c .before .loop .i) (now (c .before .before .args .words)) (omega arith)) ∙ c .before .loop .inv .2
