@@ -20,7 +20,9 @@ is-marked-requires : tie.Need-is-marked-requires
 is-marked-requires c κs =
     let s = c .before .before .before .before in
     let a = s .args in
-    room-there (a .h) (a .low) (a .high) (a .q) (a .table .now) (a .lags .now) (a .list .now) (rw (toZ-ofZ (s .fits .h), toZ-ofZ (s .fits .low), toZ-ofZ (s .fits .high), toZ-ofZ (s .fits .q)) at (c .before .before .questions .ensures)) (c .enum-told .given .1)
+    room-there (a .h) (a .low) (a .high) (a .q) (a .table .now) (a .lags .now) (a .list .now)
+    (rw (toZ-ofZ (s .fits .h), toZ-ofZ (s .fits .low), toZ-ofZ (s .fits .high), toZ-ofZ (s .fits .q)) at (c .before .before .questions .ensures))
+    (c .enum-told .given .1)
 
 same-length : tie.Need-same-length
 same-length c = search needs
@@ -29,7 +31,9 @@ returns : tie.Need-returns
 returns c =
     let s = c .before .before .before .before .before .before in
     let a = s .args in
-    check-unmarked (a .h) (a .low) (a .high) (a .q) (a .table .now) (a .lags .now) (a .list .now) (rw (toZ-ofZ (s .fits .h), toZ-ofZ (s .fits .low), toZ-ofZ (s .fits .high), toZ-ofZ (s .fits .q)) at (c .before .before .before .before .questions .ensures)) (c .before .before .enum-told .given .1) (c .before .is-marked .ensures) (c .if1 .taken)
+    check-unmarked (a .h) (a .low) (a .high) (a .q) (a .table .now) (a .lags .now) (a .list .now)
+    (rw (toZ-ofZ (s .fits .h), toZ-ofZ (s .fits .low), toZ-ofZ (s .fits .high), toZ-ofZ (s .fits .q)) at (c .before .before .before .before .questions .ensures))
+    (c .before .before .enum-told .given .1) (c .before .is-marked .ensures) (c .if1 .taken)
 
 cage-requires : tie.Need-cage-requires
 cage-requires c κs = search needs
@@ -38,7 +42,12 @@ judge-requires : tie.Need-judge-requires
 judge-requires c κs =
     let s = c .before .before .before .before .before .before .before .before in
     let a = s .args in
-    check-passing (a .h) (a .low) (a .high) (a .q) (a .table .now) (a .lags .now) (a .list .now) (rw (toZ-ofZ (s .fits .h), toZ-ofZ (s .fits .low), toZ-ofZ (s .fits .high), toZ-ofZ (s .fits .q)) at (c .before .before .before .before .before .before .questions .ensures)) (c .before .before .before .before .enum-told .given .1) (c .before .before .before .is-marked .ensures) (c .before .before .if1 .left) (toZ-ofZ (s .fits .h)) (rw (toZ-ofZ (s .fits .low), toZ-ofZ (s .fits .high), toZ-ofZ (s .fits .q)) at (ap reservoir-of (c .before .cage .ensures)))
+    check-passing (a .h) (a .low) (a .high) (a .q) (a .table .now) (a .lags .now) (a .list .now)
+    (rw (toZ-ofZ (s .fits .h), toZ-ofZ (s .fits .low), toZ-ofZ (s .fits .high), toZ-ofZ (s .fits .q)) at
+    (c .before .before .before .before .before .before .questions .ensures))
+    (c .before .before .before .before .enum-told .given .1) (c .before .before .before .is-marked .ensures) (c .before .before .if1 .left)
+    (toZ-ofZ (s .fits .h))
+    (rw (toZ-ofZ (s .fits .low), toZ-ofZ (s .fits .high), toZ-ofZ (s .fits .q)) at (ap reservoir-of (c .before .cage .ensures)))
 
 same-length-2 : tie.Need-same-length-2
 same-length-2 c = search needs
@@ -47,7 +56,9 @@ returns-2 : tie.Need-returns-2
 returns-2 c =
     let s = c .before .before .before .before .before in
     let a = s .args in
-    check-refused (a .h) (a .low) (a .high) (a .q) (a .table .now) (a .lags .now) (a .list .now) (rw (toZ-ofZ (s .fits .h), toZ-ofZ (s .fits .low), toZ-ofZ (s .fits .high), toZ-ofZ (s .fits .q)) at (c .before .before .before .questions .ensures)) (c .before .asked .given .0 .0) (c .before .asked .given .1)
+    check-refused (a .h) (a .low) (a .high) (a .q) (a .table .now) (a .lags .now) (a .list .now)
+    (rw (toZ-ofZ (s .fits .h), toZ-ofZ (s .fits .low), toZ-ofZ (s .fits .high), toZ-ofZ (s .fits .q)) at (c .before .before .before .questions .ensures))
+    (c .before .asked .given .0 .0) (c .before .asked .given .1)
 
 same-length-3 : tie.Need-same-length-3
 same-length-3 c = search needs
@@ -56,7 +67,13 @@ returns-3 : tie.Need-returns-3
 returns-3 c =
     let s = c .before .before .before .before .before .before .before .before .before .before in
     let a = s .args in
-    check-judged (a .h) (a .low) (a .high) (a .q) (a .table .now) (a .lags .now) (a .list .now) (rw (toZ-ofZ (s .fits .h), toZ-ofZ (s .fits .low), toZ-ofZ (s .fits .high), toZ-ofZ (s .fits .q)) at (c .before .before .before .before .before .before .before .before .questions .ensures)) (c .before .before .before .before .before .before .enum-told .given .1) (c .before .before .before .before .before .is-marked .ensures) (c .before .before .before .before .if1 .left) (toZ-ofZ (s .fits .h)) (rw (toZ-ofZ (s .fits .low), toZ-ofZ (s .fits .high), toZ-ofZ (s .fits .q)) at (ap reservoir-of (c .before .before .before .cage .ensures))) (c .before .judge .ensures)
+    check-judged (a .h) (a .low) (a .high) (a .q) (a .table .now) (a .lags .now) (a .list .now)
+    (rw (toZ-ofZ (s .fits .h), toZ-ofZ (s .fits .low), toZ-ofZ (s .fits .high), toZ-ofZ (s .fits .q)) at
+    (c .before .before .before .before .before .before .before .before .questions .ensures))
+    (c .before .before .before .before .before .before .enum-told .given .1) (c .before .before .before .before .before .is-marked .ensures)
+    (c .before .before .before .before .if1 .left) (toZ-ofZ (s .fits .h))
+    (rw (toZ-ofZ (s .fits .low), toZ-ofZ (s .fits .high), toZ-ofZ (s .fits .q)) at (ap reservoir-of (c .before .before .before .cage .ensures)))
+    (c .before .judge .ensures)
 
 pub check-spec : {M : Type 1} → statement M
 check-spec =

@@ -41,7 +41,14 @@ returns : tie.Need-returns
 returns c =
     let s = c .before .before .before .before .before .before .before .before .before .before .before .before .before .before in
     let a = s .args in
-    stored (a .horizon .0) (reservoir-of (a .c)) (a .table .now) (a .lags .now) (a .list .now) (s .pre) (c .before .before .before .before .before .before .before .before .before .before .before .load .last .1 .1 .0) (c .before .before .before .before .before .before .before .before .widen .last .1 .1 .1 .0) (c .before .before .before .before .before .before .before .before .before .before .before .load .ensures) (c .before .before .before .before .before .before .before .before .widen .ensures) (c .before .before .before .before .before .judge-slips .last .0) (c .before .before .before .before .before .judge-slips .result) (c .before .before .before .before .accepts .ensures) (c .before .leave .ensures) (c .before .before .before .before .before .judge-slips .ensures)
+    stored (a .horizon .0) (reservoir-of (a .c)) (a .table .now) (a .lags .now) (a .list .now) (s .pre)
+    (c .before .before .before .before .before .before .before .before .before .before .before .load .last .1 .1 .0)
+    (c .before .before .before .before .before .before .before .before .widen .last .1 .1 .1 .0)
+    (c .before .before .before .before .before .before .before .before .before .before .before .load .ensures)
+    (c .before .before .before .before .before .before .before .before .widen .ensures)
+    (c .before .before .before .before .before .judge-slips .last .0) (c .before .before .before .before .before .judge-slips .result)
+    (c .before .before .before .before .accepts .ensures) (c .before .leave .ensures)
+    (c .before .before .before .before .before .judge-slips .ensures)
 
 pub judge-spec : {M : Type 1} → statement M
 judge-spec =

@@ -34,12 +34,21 @@ closing-requires c κs =
 returns : tie.Need-returns
 returns c =
     let s = c .before .before .before .before .before .before .before in
-    judges-cut (s .args .horizon .0) (reservoir-of (s .args .c)) (s .args .n) (s .args .lags .now) (s .args .list .now) (s .args .b .now) (c .before .before .before .read-all .last .0) (rw (c .before .before .before .before .before .index .ensures, c .before .before .before .before .before .before .word-at .ensures) at (c .before .before .before .read-all .ensures)) (c .before .ended .given .0 .0) (c .before .ended .given .1)
+    judges-cut (s .args .horizon .0) (reservoir-of (s .args .c)) (s .args .n) (s .args .lags .now) (s .args .list .now) (s .args .b .now)
+    (c .before .before .before .read-all .last .0)
+    (rw (c .before .before .before .before .before .index .ensures, c .before .before .before .before .before .before .word-at .ensures) at
+    (c .before .before .before .read-all .ensures))
+    (c .before .ended .given .0 .0) (c .before .ended .given .1)
 
 returns-2 : tie.Need-returns-2
 returns-2 c =
     let s = c .before .before .before .before .before .before .before .before in
-    judges-done (s .args .horizon .0) (reservoir-of (s .args .c)) (s .args .n) (s .args .lags .now) (s .args .list .now) (s .args .b .now) (c .before .before .before .before .read-all .last .0) (rw (c .before .before .before .before .before .before .index .ensures, c .before .before .before .before .before .before .before .word-at .ensures) at (c .before .before .before .before .read-all .ensures)) (c .before .before .ended2 .given .0 .0) (c .before .before .ended2 .given .1) (c .closing .ensures)
+    judges-done (s .args .horizon .0) (reservoir-of (s .args .c)) (s .args .n) (s .args .lags .now) (s .args .list .now) (s .args .b .now)
+    (c .before .before .before .before .read-all .last .0)
+    (rw
+    (c .before .before .before .before .before .before .index .ensures, c .before .before .before .before .before .before .before .word-at .ensures)
+    at (c .before .before .before .before .read-all .ensures))
+    (c .before .before .ended2 .given .0 .0) (c .before .before .ended2 .given .1) (c .closing .ensures)
 
 pub judge-slips-spec : {M : Type 1} → statement M
 judge-slips-spec =

@@ -33,7 +33,8 @@ stop-requires c κs = search needs
 returns : tie.Need-returns
 returns c =
     let s = c .before .before .before .before .before .before in
-    stop-made (s .pre .0) (s .pre .1) (s .pre .2) (s .pre .3) (s .pre .4) (c .before .before .before .before .citing .ensures) (c .before .before .count-premises .ensures) (c .before .if1 .taken) (c .stop .ensures)
+    stop-made (s .pre .0) (s .pre .1) (s .pre .2) (s .pre .3) (s .pre .4) (c .before .before .before .before .citing .ensures)
+    (c .before .before .count-premises .ensures) (c .before .if1 .taken) (c .stop .ensures)
 
 append-slip-requires : tie.Need-append-slip-requires
 append-slip-requires c κs =
@@ -55,7 +56,11 @@ same-length c = search needs
 returns-2 : tie.Need-returns-2
 returns-2 c =
     let s = c .before .before .before .before .before .before .before .before .before .before .before .before .before in
-    slip-made (s .pre .0) (s .pre .1) (s .pre .2) (s .pre .3) (s .pre .4) (c .before .before .before .before .before .before .before .before .before .before .before .citing .ensures) (c .before .before .before .before .before .before .before .before .before .count-premises .ensures) (c .before .before .before .before .before .before .before .before .if1 .left) (c .before .before .before .before .before .append-slip .ensures) (c .before .before .store .ensures) (c .status-after .ensures)
+    slip-made (s .pre .0) (s .pre .1) (s .pre .2) (s .pre .3) (s .pre .4)
+    (c .before .before .before .before .before .before .before .before .before .before .before .citing .ensures)
+    (c .before .before .before .before .before .before .before .before .before .count-premises .ensures)
+    (c .before .before .before .before .before .before .before .before .if1 .left) (c .before .before .before .before .before .append-slip .ensures)
+    (c .before .before .store .ensures) (c .status-after .ensures)
 
 pub act-spec : {M : Type 1} → statement M
 act-spec =

@@ -21,7 +21,10 @@ planned-requires : tie.Need-planned-requires
 planned-requires c κs =
     let s = c .before .before .before .before .before .before .before in
     let a = s .args in
-    plan-asks (a .h) (a .low) (a .high) (a .q) (a .table .now) (a .lags .now) (a .buffer .now) (rw (toZ-ofZ (s .fits .h), toZ-ofZ (s .fits .low), toZ-ofZ (s .fits .high), toZ-ofZ (s .fits .q)) at (c .before .before .before .before .before .questions .ensures)) (rw (toZ-ofZ (s .fits .h), toZ-ofZ (s .fits .low), toZ-ofZ (s .fits .high), toZ-ofZ (s .fits .q)) at (c .before .before .task .ensures)) (c .before .before .before .enum-told .given .1)
+    plan-asks (a .h) (a .low) (a .high) (a .q) (a .table .now) (a .lags .now) (a .buffer .now)
+    (rw (toZ-ofZ (s .fits .h), toZ-ofZ (s .fits .low), toZ-ofZ (s .fits .high), toZ-ofZ (s .fits .q)) at (c .before .before .before .before .before .questions .ensures))
+    (rw (toZ-ofZ (s .fits .h), toZ-ofZ (s .fits .low), toZ-ofZ (s .fits .high), toZ-ofZ (s .fits .q)) at (c .before .before .task .ensures))
+    (c .before .before .before .enum-told .given .1)
 
 same-length : tie.Need-same-length
 same-length c = search needs

@@ -32,7 +32,9 @@ returns : tie.Need-returns
 returns c =
     let s = c .before .before .before .before .before .before .before .before .before in
     let a = s .args in
-    slip-appended (slip-of (a .n) (board (a .b .now)) (a .q) (a .r) (a .e) (a .y) (a .x)) (s .pre .0 .count) (c .before .before .before .before .before .before .before .append-head .ensures) (c .before .before .before .before .write-premises .ensures) (c .before .append .ensures)
+    slip-appended (slip-of (a .n) (board (a .b .now)) (a .q) (a .r) (a .e) (a .y) (a .x)) (s .pre .0 .count)
+    (c .before .before .before .before .before .before .before .append-head .ensures) (c .before .before .before .before .write-premises .ensures)
+    (c .before .append .ensures)
 
 pub append-slip-spec : {M : Type 1} → statement M
 append-slip-spec =

@@ -23,7 +23,10 @@ same-length c = search needs
 returns : tie.Need-returns
 returns c =
     let a = c .before .before .before .before .before .before .before .before .before .before .before .before .before .before .before .before .args in
-    event-made (job-at (a .k) (a .lags .now)) (a .e) (c .before .before .before .before .before .before .before .before .before .before .before .before .before .three-rules .ensures) (c .before .before .before .before .before .before .before .before .before .three-rules2 .ensures) (c .before .before .before .before .before .three-rules3 .ensures) (c .before .three-rules4 .ensures)
+    event-made (job-at (a .k) (a .lags .now)) (a .e)
+    (c .before .before .before .before .before .before .before .before .before .before .before .before .before .three-rules .ensures)
+    (c .before .before .before .before .before .before .before .before .before .three-rules2 .ensures)
+    (c .before .before .before .before .before .three-rules3 .ensures) (c .before .three-rules4 .ensures)
 
 pub event-rules-spec : {M : Type 1} → statement M
 event-rules-spec =

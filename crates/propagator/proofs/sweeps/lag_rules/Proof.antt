@@ -30,7 +30,10 @@ same-length c = search needs
 returns : tie.Need-returns
 returns c =
     let a = c .before .before .before .before .before .before .before .before .before .before .args in
-    lag-made (job-at (a .k) (a .lags .now)) (a .g) (rw (c .before .before .before .before .before .before .before .before .before .lag-event .ensures) at (c .before .before .before .before .before .before .attempt .ensures)) (rw (c .before .before .before .before .lag-event2 .ensures) at (c .before .attempt2 .ensures))
+    lag-made (job-at (a .k) (a .lags .now)) (a .g)
+    (rw (c .before .before .before .before .before .before .before .before .before .lag-event .ensures) at
+    (c .before .before .before .before .before .before .attempt .ensures))
+    (rw (c .before .before .before .before .lag-event2 .ensures) at (c .before .attempt2 .ensures))
 
 pub lag-rules-spec : {M : Type 1} → statement M
 lag-rules-spec =

@@ -34,7 +34,9 @@ same-length c = search needs
 returns : tie.Need-returns
 returns c =
     let a = c .before .before .before .before .before .before .before .before .before .before .before .before .args in
-    three-made (job-at (a .k) (a .lags .now)) (a .r) (a .e) (c .before .before .before .before .before .before .before .before .before .attempt .ensures) (c .before .before .before .before .before .attempt2 .ensures) (c .before .targets-from .ensures)
+    three-made (job-at (a .k) (a .lags .now)) (a .r) (a .e)
+    (c .before .before .before .before .before .before .before .before .before .attempt .ensures)
+    (c .before .before .before .before .before .attempt2 .ensures) (c .before .targets-from .ensures)
 
 pub three-rules-spec : {M : Type 1} → statement M
 three-rules-spec =

@@ -25,7 +25,8 @@ returns c =
     let k = c .before .before in
     let a = k .before .before .args in
     let W = board (a .b .now) in
-    best-stays (a .best .found) (reached-at (switch (a .strict)) (a .n) (reservoir-of (a .c)) (side (a .m) W) (a .e) (a .y)) (a .best .at .0) (counts-at (a .m) (a .strict) W (a .y) (k .before .t-min .ensures) (k .counts-from .ensures)) (c .before .is-beaten .ensures) (c .if1 .taken)
+    best-stays (a .best .found) (reached-at (switch (a .strict)) (a .n) (reservoir-of (a .c)) (side (a .m) W) (a .e) (a .y)) (a .best .at .0)
+    (counts-at (a .m) (a .strict) W (a .y) (k .before .t-min .ensures) (k .counts-from .ensures)) (c .before .is-beaten .ensures) (c .if1 .taken)
 
 reached-at-requires : tie.Need-reached-at-requires
 reached-at-requires c κs = search needs
@@ -35,14 +36,18 @@ returns-2 c =
     let k = c .before .before .before .before in
     let a = k .before .before .args in
     let W = board (a .b .now) in
-    best-new (a .best .found) (reached-at (switch (a .strict)) (a .n) (reservoir-of (a .c)) (side (a .m) W) (a .e) (a .y)) (a .best .at .0) (counts-at (a .m) (a .strict) W (a .y) (k .before .t-min .ensures) (k .counts-from .ensures)) (c .before .before .before .is-beaten .ensures) (c .before .before .if1 .left) (c .before .reached-at .ensures) (c .if2 .taken)
+    best-new (a .best .found) (reached-at (switch (a .strict)) (a .n) (reservoir-of (a .c)) (side (a .m) W) (a .e) (a .y)) (a .best .at .0)
+    (counts-at (a .m) (a .strict) W (a .y) (k .before .t-min .ensures) (k .counts-from .ensures)) (c .before .before .before .is-beaten .ensures)
+    (c .before .before .if1 .left) (c .before .reached-at .ensures) (c .if2 .taken)
 
 returns-3 : tie.Need-returns-3
 returns-3 c =
     let k = c .before .before .before .before in
     let a = k .before .before .args in
     let W = board (a .b .now) in
-    best-alone (a .best .found) (reached-at (switch (a .strict)) (a .n) (reservoir-of (a .c)) (side (a .m) W) (a .e) (a .y)) (a .best .at .0) (counts-at (a .m) (a .strict) W (a .y) (k .before .t-min .ensures) (k .counts-from .ensures)) (c .before .before .before .is-beaten .ensures) (c .before .reached-at .ensures) (c .if2 .left)
+    best-alone (a .best .found) (reached-at (switch (a .strict)) (a .n) (reservoir-of (a .c)) (side (a .m) W) (a .e) (a .y)) (a .best .at .0)
+    (counts-at (a .m) (a .strict) W (a .y) (k .before .t-min .ensures) (k .counts-from .ensures)) (c .before .before .before .is-beaten .ensures)
+    (c .before .reached-at .ensures) (c .if2 .left)
 
 pub with-event-spec : {M : Type 1} → statement M
 with-event-spec =

@@ -29,7 +29,8 @@ returns : tie.Need-returns
 returns c =
     let k = c .before .before in
     let a = k .before .before .before .args in
-    height-yes (a .m) (a .strict) (a .n) (reservoir-of (a .c)) (board (a .b .now)) (a .e) (k .side-reservoir .ensures) (a .y) (k .before .before .is-target .ensures) (k .before .if1 .taken) (c .before .height-bound .ensures) (c .side-height .ensures)
+    height-yes (a .m) (a .strict) (a .n) (reservoir-of (a .c)) (board (a .b .now)) (a .e) (k .side-reservoir .ensures) (a .y)
+    (k .before .before .is-target .ensures) (k .before .if1 .taken) (c .before .height-bound .ensures) (c .side-height .ensures)
 
 returns-2 : tie.Need-returns-2
 returns-2 c =

@@ -43,7 +43,9 @@ returns : tie.Need-returns
 returns c =
     let s = c .before .before .before .before .before in
     let a = s .args in
-    most-own (a .strict) (a .n) (reservoir-of (a .c)) (side (a .m) (board (a .b .now))) (a .e) (a .u .0) (a .v .0) (s .pre .2) (c .before .before .before .before .all-gains .ensures) (c .before .before .before .other-gain .ensures) (c .before .before .minus .ensures) (c .before .own-gain .ensures) (c .plus .ensures)
+    most-own (a .strict) (a .n) (reservoir-of (a .c)) (side (a .m) (board (a .b .now))) (a .e) (a .u .0) (a .v .0) (s .pre .2)
+    (c .before .before .before .before .all-gains .ensures) (c .before .before .before .other-gain .ensures) (c .before .before .minus .ensures)
+    (c .before .own-gain .ensures) (c .plus .ensures)
 
 pub most-in-spec : {M : Type 1} → statement M
 most-in-spec =

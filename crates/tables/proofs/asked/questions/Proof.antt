@@ -35,13 +35,16 @@ returns-2 : tie.Need-returns-2
 returns-2 c =
     let a = c .before .before .before .before .before .before .args in
     let f = c .before .before .before .before .before .before .fits in
-    then-pass (rw (toZ-ofZ (f .h), toZ-ofZ (f .low), toZ-ofZ (f .high), toZ-ofZ (f .q)) at (c .before .before .before .before .before .of-reservoir .ensures)) (c .before .before .before .enum-told .given .1)
+    then-pass
+    (rw (toZ-ofZ (f .h), toZ-ofZ (f .low), toZ-ofZ (f .high), toZ-ofZ (f .q)) at (c .before .before .before .before .before .of-reservoir .ensures))
+    (c .before .before .before .enum-told .given .1)
     (then-refuse _ (rw (toZ-ofZ (f .h)) at (c .before .before .of-windows .ensures)) (c .enum-told4 .given .1))
     ∙ grouped (a .h) (a .low) (a .high) (a .q) (a .table .now) (a .lags .now) (a .room)
 
 of-lags-requires : tie.Need-of-lags-requires
 of-lags-requires c κs =
-    few-events (c .before .before .before .before .before .before .args .h) (c .before .before .before .before .before .before .args .table .now) (rw (toZ-ofZ (c .before .before .before .before .before .before .fits .h)) at (c .before .before .of-windows .ensures)) (c .enum-told3 .given .1)
+    few-events (c .before .before .before .before .before .before .args .h) (c .before .before .before .before .before .before .args .table .now)
+    (rw (toZ-ofZ (c .before .before .before .before .before .before .fits .h)) at (c .before .before .of-windows .ensures)) (c .enum-told3 .given .1)
 
 enum-told-5 : tie.Need-enum-told-5
 enum-told-5 c = search needs
@@ -53,7 +56,10 @@ returns-3 : tie.Need-returns-3
 returns-3 c =
     let a = c .before .before .before .before .before .before .before .before .before .args in
     let f = c .before .before .before .before .before .before .before .before .before .fits in
-    then-pass (rw (toZ-ofZ (f .h), toZ-ofZ (f .low), toZ-ofZ (f .high), toZ-ofZ (f .q)) at (c .before .before .before .before .before .before .before .before .of-reservoir .ensures)) (c .before .before .before .before .before .before .enum-told .given .1)
+    then-pass
+    (rw (toZ-ofZ (f .h), toZ-ofZ (f .low), toZ-ofZ (f .high), toZ-ofZ (f .q)) at
+    (c .before .before .before .before .before .before .before .before .of-reservoir .ensures))
+    (c .before .before .before .before .before .before .enum-told .given .1)
     (then-pass (rw (toZ-ofZ (f .h)) at (c .before .before .before .before .before .of-windows .ensures)) (c .before .before .before .enum-told3 .given .1)
     (then-refuse _ (c .before .before .of-lags .ensures) (c .enum-told6 .given .1)))
     ∙ grouped (a .h) (a .low) (a .high) (a .q) (a .table .now) (a .lags .now) (a .room)
@@ -65,7 +71,10 @@ returns-4 : tie.Need-returns-4
 returns-4 c =
     let a = c .before .before .before .before .before .before .before .before .before .before .args in
     let f = c .before .before .before .before .before .before .before .before .before .before .fits in
-    then-pass (rw (toZ-ofZ (f .h), toZ-ofZ (f .low), toZ-ofZ (f .high), toZ-ofZ (f .q)) at (c .before .before .before .before .before .before .before .before .before .of-reservoir .ensures)) (c .before .before .before .before .before .before .before .enum-told .given .1)
+    then-pass
+    (rw (toZ-ofZ (f .h), toZ-ofZ (f .low), toZ-ofZ (f .high), toZ-ofZ (f .q)) at
+    (c .before .before .before .before .before .before .before .before .before .of-reservoir .ensures))
+    (c .before .before .before .before .before .before .before .enum-told .given .1)
     (then-pass (rw (toZ-ofZ (f .h)) at (c .before .before .before .before .before .before .of-windows .ensures)) (c .before .before .before .before .enum-told3 .given .1)
     (then-pass (c .before .before .before .of-lags .ensures) (c .before .enum-told5 .given .1) (c .of-room .ensures)))
     ∙ grouped (a .h) (a .low) (a .high) (a .q) (a .table .now) (a .lags .now) (a .room)

@@ -32,7 +32,9 @@ returns : tie.Need-returns
 returns c =
     let s = c .before .before .before .before .before .before .before .before .before .before .before in
     let e : ltZ (s .args .z) (pos 0) ≡ true = omega (ints, rng (s .fits .z), c .before .before .before .before .before .before .before .before .if1 .taken) in
-    put-negative (s .args .z) (s .fits .z .sfits) (c .before .before .before .before .before .before .before .before .before .magnitude .ensures ∙ ap natAbs (toZ-ofZ (s .fits .z))) e (c .before .before .before .before .before .before .put .ensures) (c .before .before .put-digits .ensures)
+    put-negative (s .args .z) (s .fits .z .sfits)
+    (c .before .before .before .before .before .before .before .before .before .magnitude .ensures ∙ ap natAbs (toZ-ofZ (s .fits .z))) e
+    (c .before .before .before .before .before .before .put .ensures) (c .before .before .put-digits .ensures)
 
 put-digits-requires-2 : tie.Need-put-digits-requires-2
 put-digits-requires-2 c κs =
