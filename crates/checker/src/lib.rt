@@ -198,6 +198,7 @@ fn judge(horizon: Time, c: Reservoir, table: &mut [i32], lags: &[i32], list: &[i
 }
 
 // The slip reader: whatever words the list holds, it is accepted, the windows narrowed, or refused by number and place, no word changed.
+// It rules out a reader that accepts every list (accepts_every_list) and one that leaves a narrowed window behind (narrowed_window_left).
 pub fn check(
     h: i32,
     low: i32,

@@ -94,12 +94,15 @@ module _ (s : Switch) (n : ℕ) (W X : Windows) (a : Agree n W X) (e : ℕ) (u v
   early-agree y l = ap₂ (λ p h. not (eqb y e) && surely-consumed p h) (place-there y l) (a y l h-max)
 
   pub cites-agree : (z : ℕ) → z < n → (k : End) → cites s n W e u v top dropped z k ≡ cites s n X e u v top dropped z k
-  cites-agree z l t-min =
-      ap₂ (cond (eqb z e)) (any-agree n (early s n W e u v top dropped) (early s n X e u v top dropped) early-agree) (late-agree z l)
-  cites-agree z l t-max =
-      ap₂ (λ b c. cond (eqb z e) (top && b) c) (any-agree n (late s n W e u v top dropped) (late s n X e u v top dropped) late-agree) (early-agree z l)
-  cites-agree z l h-min = refl
-  cites-agree z l h-max = ap₂ (λ p h. not (dropped z) && targeted p h) (place-there z l) (a z l h-max)
+  cites-agree z l k =
+      let all-early = any-agree n (early s n W e u v top dropped) (early s n X e u v top dropped) early-agree in
+      let all-late = any-agree n (late s n W e u v top dropped) (late s n X e u v top dropped) late-agree in
+      elim k [
+        | t-min ↦ simp (all-early, all-late, early-agree z l, late-agree z l)
+        | t-max ↦ simp (all-early, all-late, early-agree z l, late-agree z l)
+        | h-min ↦ refl
+        | h-max ↦ simp (late-agree z l, place-there z l, a z l h-max)
+      ]
 
   pub says-agree : (z : ℕ) → z < n → (k : End) → says s n W e u v top dropped z k ≡ says s n X e u v top dropped z k
   says-agree z l t-min = refl

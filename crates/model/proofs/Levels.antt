@@ -118,6 +118,11 @@ gain-weaker never never m n w h = omega ints
 
 -- ---- the level
 
+-- The opening stock, and what each event adds.
+most-is : (s : Switch) (n : ℕ) (c : Reservoir) (W : Windows) (e : ℕ) (u v : ℤ) → most-in s n c W e u v ≡ c .initial +ℤ sum n (gains s W e u v)
+unfolding most-in
+most-is s n c W e u v = refl
+
 -- The windows X are no narrower than W, whose times are not empty, and e's range u′..v′ in X no narrower than u..v in W.
 pub record Wider (n : ℕ) (W X : Windows) (u v u′ v′ : ℤ) : Type 0 where
   pub windows : Inside n X W
@@ -149,9 +154,9 @@ module _ (s : Switch) (c : Reservoir) (e : ℕ) {n : ℕ} {W X : Windows} {u v u
       gain-weaker (place s W e u v y) (place s X e u′ v′ y) (W y h-max) (X y h-max) (place-weaker y l) (record { le = w .windows .inside y l h-max })
 
   pub most-weaker : most-in s n c W e u v ≤ℤ most-in s n c X e u′ v′
-  unfolding most-in
   most-weaker =
-      add-le (c .initial) (sum n (gains s W e u v)) (sum n (gains s X e u′ v′)) (sum-le n (gains s W e u v) (gains s X e u′ v′) gains-weaker)
+      rw (most-is s n c W e u v, most-is s n c X e u′ v′)
+      (add-le (c .initial) (sum n (gains s W e u v)) (sum n (gains s X e u′ v′)) (sum-le n (gains s W e u v) (gains s X e u′ v′) gains-weaker))
 
 -- ---- the level rises with e's latest minute
 
@@ -169,9 +174,9 @@ module _ (s : Switch) (n : ℕ) (c : Reservoir) (W : Windows) (e : ℕ) (u v v�
       gain-weaker (place s W e u v y) (place s W e u v′ y) (W y h-max) (W y h-max) (place-later y) (omega ints)
 
   pub most-later : most-in s n c W e u v ≤ℤ most-in s n c W e u v′
-  unfolding most-in
   most-later =
-      add-le (c .initial) (sum n (gains s W e u v)) (sum n (gains s W e u v′)) (sum-le n (gains s W e u v) (gains s W e u v′) (λ y l. gains-later y))
+      rw (most-is s n c W e u v, most-is s n c W e u v′)
+      (add-le (c .initial) (sum n (gains s W e u v)) (sum n (gains s W e u v′)) (sum-le n (gains s W e u v) (gains s W e u v′) (λ y l. gains-later y)))
 
 -- ---- targets
 

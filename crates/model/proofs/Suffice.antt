@@ -58,18 +58,18 @@ aims level e y = eqb y e
 aims time e y = eqb y e
 aims height e y = true
 
--- Only a target's own amount is left out, and none of a conflict.
+-- No amount of a conflict is left out, and of a bound only the target's own.
+drops-none : (x : Effect) (y z : ℕ) → x ≡ fails → T (not (drops height x y z))
+drops-none x y z e = rw e tt
+
 drops-other : (x : Effect) (y z : ℕ) → (z ≡ y → ⊥) → T (not (drops height x y z))
 drops-other idle y z d = tt
 drops-other (narrows v) y z d = not-T (eqb z y) (λ t. d (eqb→eq z y t))
 drops-other fails y z d = tt
 
-drops-none : (x : Effect) (y z : ℕ) → x ≡ fails → T (not (drops height x y z))
-drops-none x y z e = rw e tt
-
 -- Question 15.
 family-true : (f : Family) (s : Switch) (n : ℕ) (W : Windows) (e y : ℕ) (x : Effect) → Keeps n (family-cites f s n W e y x) (family-says f s n W e y x) W
-family-true level s n W e y x = cites-true s n W e (W e t-max) true (drops level x y) (λ _. omega ints)
+family-true level s n W e y x = cites-true s n W e (W e t-max) (quotes-top level) (drops level x y) (λ _. omega ints)
 family-true time s n W e y x = cites-true s n W e (latest time (W e t-max) x) false (drops time x y) (λ t. absurd t)
 family-true height s n W e y x = cites-true s n W e (W e t-max) true (drops height x y) (λ _. omega ints)
 

@@ -78,6 +78,7 @@ pub fn planned(k: Job, table: &mut [i32], lags: &[i32], buffer: &mut [i32]) -> A
 }
 
 // The planner: the reply, and every word of the window table and the slip buffer, as document 01 says. A refusal changes no lent word.
+// It rules out a planner that writes no slip (no_slip) and one that answers conflict always (conflict_always).
 pub fn plan(
     h: i32,
     low: i32,

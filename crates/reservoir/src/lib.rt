@@ -1,9 +1,7 @@
 // The library: planner and reader, and the one call in which both assure each other.
 //
-// The planner is `propagator::plans::plan`. Its promise, that answer, window table and slip buffer equal the definition `plan`, rules out
-// a planner that writes no slip and one that answers conflict always (crates/propagator/must-fail).
-// The reader is `checker::check`. Its promise, that verdict and window table equal the definition `check`, rules out
-// a reader that refuses every list and one that accepts every list (crates/checker/must-fail).
+// The planner is `propagator::plans::plan`, the reader `checker::check`. At each promise two wrong programs are named that it rules out;
+// each stands as an edit in its crate's must-fail and docs/EDITS.md tells which fact breaks.
 use checker::Verdict;
 use checker::check;
 use propagator::Answer;
@@ -70,8 +68,8 @@ fn unread(answer: Answer, w: Written) -> Checked
 }
 
 // Plans, then reads what was written with the windows as first sent in.
-// The promise is demands 1 to 3 in one piece. It rules out a planner that invents its slips or counts, a refused call that stores a word, and a reader
-// that accepts a list which loses a legal plan.
+// The promise is demands 1 to 3 in one piece. It rules out a call that says open whatever the reader answered (reader_not_heard)
+// and one that reads the list from other windows than those sent in (read_from_other_windows).
 pub fn plan_and_read(
     h: i32,
     low: i32,
