@@ -69,7 +69,7 @@ fn unread(answer: Answer, w: Written) -> Checked
 
 // Plans, then reads what was written with the windows as first sent in.
 // The promise is demands 1 to 3 in one piece. It rules out a call that says open whatever the reader answered (reader_not_heard)
-// and one that reads the list from other windows than those sent in (read_from_other_windows).
+// and one that reads the list from other windows than those sent in (windows_of_64_events_lost).
 pub fn plan_and_read(
     h: i32,
     low: i32,
