@@ -1,0 +1,174 @@
+-- Every number of a reply is at most 1,000,000: a place is that of an event, a lag or a slip, and a list has fewer slips than words.
+-- Assumes nothing.
+use mathlib.Core.Path.{_≡_, refl}
+use mathlib.Core.Bool.{Bool, true, false, cond, _&&_}
+use mathlib.Core.List.{List}
+use Prim.Native.Nat.{ℕ, zero, suc, _+_, _%_, _≤_}
+use native.Mathlib.Omega.{arith}
+use lib.Dec.{eqb, leb, leb→le}
+use lib.IntN.{ℤ, pos, natAbs}
+use lib.ListN.{length}
+use lib.Signed.{leZ}
+use Rattle.integers.specs.Range.{eqZ}
+use Rattle.integers.proofs.Tests.{true-is, and-out}
+use Rattle.model.specs.Job.{Windows, windows, widest, Job, job, lags}
+use Rattle.model.specs.Rules.{own-end, bound, effect}
+use Rattle.model.specs.Slips.{Explanation, slip-length}
+use Rattle.model.specs.Rounds.{Verdict, settled, conflict, stopped, still-open}
+use Rattle.model.specs.Questions.{Check, pass, refuse, _then_, ask, each, in-range, times-right, heights-right, lag-events, lag-differs, lag-in-range, limit-in-range, questions}
+use Rattle.model.specs.Planner.{refused, done, Outcome, plan}
+use Rattle.model.specs.Reader.{at, premise-count, whole, slip-at, reading, rule-of, target-of, names, all-true, narrowed, is-conflict, gives, is-narrowing, slip-questions, applied, Read, read-from, stop-of, counted, marked, ends-right, read-all, accepted, judged, check}
+use Rattle.model.proofs.Questions.{then-out, ask-out, asked}
+use Rattle.model.proofs.Reading.{slip-ends}
+use Rattle.model.proofs.Rounds.{slips-room}
+use Rattle.model.proofs.Refusals.{run-in, plan-refused, plan-planned, run-finished, check-refused, check-judged}
+use Rattle.export.specs.Words.{outcome-of, numbers-of, Small}
+
+-- ---- checks
+
+-- A refusal's number and place.
+data Low : Check → Type 0 where
+  passes : Low pass
+  refuses : (number place : ℕ) → number ≤ 1000000 → place ≤ 1000000 → Low (refuse number place)
+
+then-low : (c d : Check) → Low c → (c ≡ pass → Low d) → Low (c then d)
+then-low pass d l m = m refl
+then-low (refuse number place) d l m = l
+
+ask-low : (q : ℕ) (b : Bool) → q ≤ 1000000 → Low (ask q b)
+ask-low q true h = passes
+ask-low q false h = refuses q 0 h (omega arith)
+
+each-low : (q : ℕ) (ok : ℕ → Bool) (i k : ℕ) → q ≤ 1000000 → i + k ≤ 1000000 → Low (each q ok i k)
+unfolding each
+each-low q ok i zero h l = passes
+each-low q ok i (suc k) h l = go (ok i) (each-low q ok (i + 1) k h (omega arith))
+  where
+    go : (b : Bool) → Low (each q ok (i + 1) k) → Low (cond b (each q ok (i + 1) k) (refuse q i))
+    go true r = r
+    go false r = refuses q i h (omega arith)
+
+-- ---- questions 1 to 11
+
+row-low : (b1 b2 b3 b4 b7 b11 : Bool) (ok5 ok6 ok8 ok9 ok10 : ℕ → Bool) (n m : ℕ) → (ask 4 b4 ≡ pass → 0 + n ≤ 1000000) → (ask 7 b7 ≡ pass → 0 + m ≤ 1000000)
+    → Low (ask 1 b1 then ask 2 b2 then ask 3 b3 then ask 4 b4 then each 5 ok5 0 n then each 6 ok6 0 n then ask 7 b7 then each 8 ok8 0 m then each 9 ok9 0 m then each 10 ok10 0 m then ask 11 b11)
+row-low b1 b2 b3 b4 b7 b11 ok5 ok6 ok8 ok9 ok10 n m few-events few-lags =
+    then-low (ask 1 b1) _ (ask-low 1 b1 (omega arith)) (λ _. then-low (ask 2 b2) _ (ask-low 2 b2 (omega arith)) (λ _. then-low (ask 3 b3) _ (ask-low 3 b3 (omega arith))
+    (λ _. then-low (ask 4 b4) _ (ask-low 4 b4 (omega arith)) (λ p. then-low (each 5 ok5 0 n) _ (each-low 5 ok5 0 n (omega arith) (few-events p))
+    (λ _. then-low (each 6 ok6 0 n) _ (each-low 6 ok6 0 n (omega arith) (few-events p)) (λ _. then-low (ask 7 b7) _ (ask-low 7 b7 (omega arith))
+    (λ q. then-low (each 8 ok8 0 m) _ (each-low 8 ok8 0 m (omega arith) (few-lags q)) (λ _. then-low (each 9 ok9 0 m) _ (each-low 9 ok9 0 m (omega arith) (few-lags q))
+    (λ _. then-low (each 10 ok10 0 m) _ (each-low 10 ok10 0 m (omega arith) (few-lags q)) (λ _. ask-low 11 b11 (omega arith)))))))))))
+
+-- Questions 14 to 18 of a slip.
+slip-low : (named true-facts given clashing last moved : Bool) → Low (ask 14 named then ask 15 true-facts then ask 16 given then cond clashing (ask 18 last) (ask 17 moved))
+slip-low named true-facts given clashing last moved =
+    then-low (ask 14 named) _ (ask-low 14 named (omega arith)) (λ _. then-low (ask 15 true-facts) _ (ask-low 15 true-facts (omega arith))
+    (λ _. then-low (ask 16 given) _ (ask-low 16 given (omega arith)) (λ _. done-low clashing)))
+  where
+    done-low : (b : Bool) → Low (cond b (ask 18 last) (ask 17 moved))
+    done-low true = ask-low 18 last (omega arith)
+    done-low false = ask-low 17 moved (omega arith)
+
+-- A table's length that question 4 or 7 lets pass.
+few : (q m k : ℕ) (whole-entries : Bool) → k ≤ 1000000 → ask q (whole-entries && leb m k) ≡ pass → m ≤ 1000000
+few q m k whole-entries l e =
+    let t = and-out whole-entries (leb m k) (ask-out q (whole-entries && leb m k) e) in
+    let u = leb→le m k (t .1) in
+    omega arith
+
+module _ (h low high q : ℤ) (table lag-words : List ℤ) where
+  abbrev j : Job
+  j = job h low high q table lag-words
+
+  questions-low : (room : ℕ) → Low (questions j table room)
+  unfolding questions
+  questions-low room =
+      row-low (in-range (pos 0) (pos 20000) h) (limit-in-range low && limit-in-range high && limit-in-range q) (leZ low q && leZ q high)
+      (eqb (length table % 4) 0 && leb (length table) 256) (eqb (length lag-words % 3) 0 && leb (length lag-words) 768) (leb 3 room && leb room 1000000)
+      (times-right h (windows table)) (heights-right (windows table)) (lag-events j) (lag-differs j) (lag-in-range j) (j .events) (lags j) events ties
+    where
+      events : ask 4 (eqb (length table % 4) 0 && leb (length table) 256) ≡ pass → 0 + j .events ≤ 1000000
+      events e = let k = few 4 (length table) 256 (eqb (length table % 4) 0) (omega arith) e in omega arith
+
+      ties : ask 7 (eqb (length lag-words % 3) 0 && leb (length lag-words) 768) ≡ pass → 0 + lags j ≤ 1000000
+      ties e = let k = few 7 (length lag-words) 768 (eqb (length lag-words % 3) 0) (omega arith) e in omega arith
+
+  -- ---- the planner
+
+  outcome-low : (v : Verdict) → outcome-of v ≤ 1000000
+  outcome-low settled = omega arith
+  outcome-low conflict = omega arith
+  outcome-low stopped = omega arith
+  outcome-low still-open = omega arith
+
+  refused-small : (number place : ℕ) → Low (refuse number place) → Small (numbers-of (refused number place))
+  refused-small number place (refuses _ _ l m) =
+      record { number = l; place = m; outcome = omega arith; slips = omega arith; rounds = omega arith; length = omega arith }
+
+  done-small : (v : Verdict) (slips rounds len : ℕ) → slips ≤ 1000000 → rounds ≤ 1000000 → len ≤ 1000000 → Small (numbers-of (done v slips rounds len))
+  done-small v slips rounds len l m n =
+      record { number = omega arith; place = omega arith; outcome = outcome-low v; slips = l; rounds = m; length = n }
+
+  pub plan-small : (buffer : List ℤ) → Small (numbers-of (plan h low high q table lag-words buffer .reply))
+  plan-small buffer = go (questions j table (length buffer)) refl
+    where
+      go : (c : Check) → questions j table (length buffer) ≡ c → Small (numbers-of (plan h low high q table lag-words buffer .reply))
+      go (refuse number place) e = rw (plan-refused h low high q table lag-words buffer number place e) (refused-small number place (rw e at (questions-low (length buffer))))
+      go pass e =
+          let r = run-in h low high q table lag-words buffer in
+          let f = run-finished h low high q table lag-words buffer e in
+          let a = asked h low high q table lag-words (length buffer) e .room-high in
+          let k = slips-room (length buffer) j table (r .state) (f .kept) in
+          let t = f .kept .trailer-fits in
+          let m = f .counted in
+          rw (plan-planned h low high q table lag-words buffer e) (done-small (r .verdict) (r .state .slips) (r .rounds) (length (r .state .log) + 3) (omega arith) (omega arith) (omega arith))
+
+  -- ---- the reader
+
+  module _ (wide : Windows) (list : List ℤ) (stop : ℕ) (short : stop ≤ 1000000) where
+    asks-low : (table′ : List ℤ) (x : Explanation) (k : ℕ) → Low (slip-questions j wide (windows table′) x k)
+    unfolding slip-questions
+    asks-low table′ x k =
+        slip-low (names j x) (all-true (windows table′) (x .premises)) (gives j (narrowed wide (x .premises)) x) (is-conflict x) (eqb k 0)
+        (is-narrowing (effect (own-end (rule-of x)) (windows table′) (target-of x) (bound (x .value))))
+
+    -- The number of a slip is at most the place where it begins.
+    read-low : (k i p last : ℕ) (c : Bool) (table′ : List ℤ) → i ≤ p → p ≤ stop → Low (read-from j wide list stop k i p last c table′ .check)
+    unfolding read-from reading
+    read-low zero i p last c table′ l m = passes
+    read-low (suc k) i p last c table′ l m =
+        go (whole list stop p) refl (slip-questions j wide (windows table′) (slip-at list p) k) refl (asks-low table′ (slip-at list p) k)
+        (read-low k (i + 1) (p + slip-length (premise-count list p)) p (is-conflict (slip-at list p)) (applied table′ (slip-at list p)) (omega arith))
+      where
+        go : (b : Bool) → whole list stop p ≡ b → (a : Check) → slip-questions j wide (windows table′) (slip-at list p) k ≡ a → Low (slip-questions j wide (windows table′) (slip-at list p) k)
+            → (p + slip-length (premise-count list p) ≤ stop → Low (read-from j wide list stop k (i + 1) (p + slip-length (premise-count list p)) p (is-conflict (slip-at list p)) (applied table′ (slip-at list p)) .check))
+            → Low (read-from j wide list stop (suc k) i p last c table′ .check)
+        go true e pass f s rec = rw (e, f, read-from) (rec (slip-ends list stop p (true-is e)))
+        go true e (refuse number place) f s rec = rw (e, f, read-from) (placed (rw f at s))
+          where
+            placed : Low (refuse number place) → Low (refuse number i)
+            placed (refuses _ _ n o) = refuses number i n (omega arith)
+        go false e a f s rec = rw (e, read-from) (refuses 13 i (omega arith) (omega arith))
+
+  all-low : (list : List ℤ) → length list ≤ 1000000 → Low (read-all j table list .check)
+  unfolding read-all
+  all-low list l = read-low (widest h (windows table)) list (stop-of list) (omega arith) (natAbs (counted list)) 0 0 0 false table (omega arith) (omega arith)
+
+  pub check-small : (list : List ℤ) → Small (numbers-of (check h low high q table lag-words list .reply))
+  check-small list = go (questions j table (length list) then marked list) refl
+    where
+      both : Low (questions j table (length list) then marked list)
+      both = then-low (questions j table (length list)) (marked list) (questions-low (length list)) (λ _. ask-low 12 (eqZ (at list (stop-of list + 2)) (pos 4207) && leZ (pos 0) (counted list)) (omega arith))
+
+      verdict : (r : Read) → Low (r .check) → Small (numbers-of (judged table list r .reply))
+      verdict r l = ends (r .check then ends-right list r) (then-low (r .check) (ends-right list r) l (λ _. ask-low 19 (eqb (r .after) (stop-of list) && eqZ (at list (stop-of list + 1)) (pos (r .last))) (omega arith)))
+        where
+          ends : (c : Check) → Low c → Small (numbers-of ((elim c as (λ _. Outcome) [ refuse n i ↦ record { reply = refused n i; table = table; buffer = list } | pass ↦ record { reply = done (accepted (r .conflicting)) 0 0 0; table = r .table; buffer = list } ]) .reply))
+          ends pass l = done-small (accepted (r .conflicting)) 0 0 0 (omega arith) (omega arith) (omega arith)
+          ends (refuse number place) l = refused-small number place l
+
+      go : (c : Check) → (questions j table (length list) then marked list) ≡ c → Small (numbers-of (check h low high q table lag-words list .reply))
+      go (refuse number place) e = rw (check-refused h low high q table lag-words list number place e) (refused-small number place (rw e at both))
+      go pass e =
+          let d = then-out (questions j table (length list)) (marked list) e .0 in
+          rw (check-judged h low high q table lag-words list e) (verdict (read-all j table list) (all-low list (asked h low high q table lag-words (length list) d .room-high)))

@@ -1,0 +1,2 @@
+mod Fitting
+mod Telling
