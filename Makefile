@@ -1,16 +1,19 @@
 # make run       prove and build the program, and run it on examples/worked.txt (JOB=file for another)
 # make gate      the second program, then everything proved from nothing; the last line is "N passed, 0 failed"
+# make bench     prove and build the static library, and time planner and reader beside the second program
 # make prove     prove what has changed since the last run
 # make format    lay out every source file
 
 JOB ?= examples/worked.txt
 
-.PHONY: run gate prove format
+.PHONY: run gate bench prove format
 run:
 	rt check planner > /dev/null
 	target/bin/planner < $(JOB)
 gate:
 	bash .ci/run
+bench:
+	bash bench/run
 prove:
 	rt check
 format:

@@ -6,7 +6,6 @@
 //! that would run fastest.
 
 pub mod answers;
-pub mod bench;
 pub mod brute;
 pub mod checker;
 pub mod counts;

@@ -1,17 +1,16 @@
-//! The command line: `second plan | stream | answers | counts | brute | bench`.
+//! The command line: `second plan | stream | answers | counts | brute`.
 
 use std::io::{self, BufReader, BufWriter, Write};
 use std::process::ExitCode;
 
-use second::{answers, bench, brute, counts, stream, text};
+use second::{answers, brute, counts, stream, text};
 
 const USAGE: &str = "usage:
   second plan < TEXT                    answer one job given as text
   second stream SEED JOBS LISTS > FILE  write a seeded stream of records
   second answers < FILE                 one answer line for every record
   second counts < FILE                  what the stream reaches
-  second brute SEED N                   check N small jobs by enumeration
-  second bench                          time propagator and checker";
+  second brute SEED N                   check N small jobs by enumeration";
 
 const BUFFER_BYTES: usize = 1 << 16;
 
@@ -30,7 +29,6 @@ fn main() -> ExitCode {
             (Ok(seed), Ok(jobs)) => run_brute(seed, jobs),
             _ => return usage(),
         },
-        ["bench"] => bench::run(&mut io::stdout().lock()).map(|()| true),
         _ => return usage(),
     };
     match done {
