@@ -98,6 +98,7 @@ fn tell(n: Numbers, words: &mut [i32]) -> i32
 }
 
 // The planner: number, answer words, window table and slip buffer, all as document 01 says. The answer words are written where there is room for five.
+// It rules out a call that tells a refusal as taken (refused_as_0) and one that writes place and outcome in each other's word (place_for_outcome).
 #[no_mangle]
 pub extern "C" fn orthmuzi_plan(
     h: i32,
@@ -119,6 +120,7 @@ pub extern "C" fn orthmuzi_plan(
 }
 
 // The reader: number, answer words and window table, whatever words the list holds.
+// It rules out a call that tells an open list as settled (open_as_settled) and, as above, place_for_outcome.
 #[no_mangle]
 pub extern "C" fn orthmuzi_read(
     h: i32,
