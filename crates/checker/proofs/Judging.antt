@@ -1,27 +1,23 @@
 -- The reader's whole call: questions 1 to 12, all slips, question 19, and the windows stored.
 -- Assumes nothing.
 use mathlib.Core.Path.{_≡_, refl, sym, ap, subst, _∙_}
-use mathlib.Core.Bool.{Bool, true, false, not, cond, _&&_}
+use mathlib.Core.Bool.{Bool, true, false, not, cond}
 use mathlib.Core.List.{List}
-use Prim.Native.Nat.{ℕ, zero, suc, _+_, _*_, _-_, _/_, _<_, _≤_}
-use native.Mathlib.Omega.{arith}
-use lib.Dec.{T, eqb}
+use Prim.Native.Nat.{ℕ, _+_, _*_, _-_, _/_, _≤_}
 use lib.IntN.{ℤ, pos, natAbs}
 use lib.ListN.{length}
 use lib.Signed.{leZ}
 use borrow.Author.Tests.{eq-eqb, ne-eqb, not-true, not-false}
 use Rattle.integers.specs.Range.{eqZ}
 use Rattle.integers.proofs.Tests.{and-yes, and-no, and-out, true-is}
-use Rattle.model.specs.Job.{Windows, windows, widest, Reservoir, Job, job}
-use Rattle.model.specs.Questions.{Check, pass, refuse, _then_, ask, questions}
-use Rattle.model.specs.Planner.{Reply, refused, done, Outcome}
-use Rattle.model.specs.Reader.{at, stop-of, counted, accepted, marked, ends-right, read-from, read-all, judged, check}
+use Rattle.model.specs.Job.{windows, widest, Reservoir, job}
+use Rattle.model.specs.Questions.{pass, refuse, _then_, questions}
+use Rattle.model.specs.Reader.{at, stop-of, counted, read-from, read-all, judged, check}
 use Rattle.model.specs.Reader as model
-use Rattle.model.proofs.Standing.{Sane, Standing}
 use Rattle.model.proofs.Questions.{Asked, asked}
-use Rattle.tables.specs.Board.{board, table-of, Whole as Full, Loaded}
+use Rattle.tables.specs.Board.{board, table-of, Loaded}
 use Rattle.tables.specs.Asked.{check-of}
-use Rattle.rules.specs.Values.{job-of, Lagged}
+use Rattle.rules.specs.Values.{job-of}
 use Rattle.checker.specs.Slip.{Lags, Called, Ends}
 use Rattle.checker.specs.Wide.{Wide}
 use Rattle.checker.specs.Verdict.{trailed, closed-at, reply-of, accepting, left-by, closing-reply, called, Passing, Trailed, read-over, found, Judges}
@@ -29,7 +25,7 @@ use Rattle.checker.specs.declared.Ended.{Ended}
 use Rattle.checker.specs.declared.Ended.the-variants.{Done, Refused as Cut}
 use Rattle.checker.specs.declared.Tail.{Tail}
 use Rattle.checker.specs.declared.Verdict.{Verdict}
-use Rattle.checker.specs.declared.Verdict.the-variants.{Open, Conflict, Refused}
+use Rattle.checker.specs.declared.Verdict.the-variants.{Refused}
 use Rattle.tables.specs.declared.Refusal.{Refusal}
 use Rattle.tables.specs.declared.Check.{Check as Asks}
 use Rattle.tables.specs.declared.Check.the-variants.{Pass, Refuse}

@@ -1,29 +1,26 @@
 -- The reader's loop over the slips: where it stands, and that it goes as the definition reads.
 -- Assumes nothing.
-use mathlib.Core.Path.{_≡_, refl, sym, ap, subst, _∙_}
+use mathlib.Core.Path.{_≡_, refl, sym, subst, _∙_}
 use mathlib.Core.Bool.{Bool, true, false, cond}
 use mathlib.Core.List.{List}
-use Prim.Native.Nat.{ℕ, zero, suc, _+_, _*_, _-_, _<_, _≤_}
+use Prim.Native.Nat.{ℕ, suc, _+_, _-_, _<_, _≤_}
 use native.Mathlib.Omega.{arith}
-use lib.Dec.{T}
 use lib.IntN.{ℤ, pos, negsuc}
 use lib.Signed.{_≤ℤ_}
-use lib.ListN.{length}
 use Rattle.integers.specs.Range.{Within}
 use Rattle.integers.proofs.Linear.{ints}
-use Rattle.model.specs.Job.{End, t-min, t-max, h-min, h-max, Windows, windows, widest, meets, Inside, Reservoir, Job, produces, consumes}
+use Rattle.model.specs.Job.{End, t-min, t-max, h-min, h-max, Windows, windows, widest, Reservoir, Job, produces, consumes}
 use Rattle.model.specs.Questions.{pass, refuse}
-use Rattle.model.specs.Reader.{read-from, is-conflict, applied}
+use Rattle.model.specs.Reader.{read-from}
 use Rattle.model.specs.Reader as model
-use Rattle.model.proofs.Standing.{Sane, Standing}
-use Rattle.model.proofs.Agree.{Agree, agree-sym}
+use Rattle.model.proofs.Standing.{Standing}
+use Rattle.model.proofs.Agree.{Agree}
 use Rattle.model.proofs.Ranges.{end-range}
 use Rattle.model.proofs.Accepted.{passed, passed-standing}
 use Rattle.tables.specs.Board.{board, table-of, Whole as Full}
 use Rattle.tables.proofs.Board.{windows-board, length-table}
-use Rattle.rules.specs.Values.{span, job-of, Ranged, Reserved}
-use Rattle.checker.specs.Slip.{Lags, Ready, Called, Turn, turn, on, off, Stepped}
-use Rattle.checker.specs.Wide.{Wide}
+use Rattle.rules.specs.Values.{span, job-of}
+use Rattle.checker.specs.Slip.{Ready, Called, Turn, turn, Stepped}
 use Rattle.checker.specs.declared.Step.{Step}
 use Rattle.checker.specs.declared.Step.the-variants.{On, No}
 use Rattle.checker.proofs.Turning.{reads-off, reads-on, turn-agree}

@@ -1,19 +1,17 @@
 -- What a slip names: its rule's end, subject, target and kind.
 -- Assumes nothing.
-use mathlib.Core.Path.{_≡_, refl, sym, ap, subst, _∙_}
-use mathlib.Core.Bool.{Bool, true, false, not, cond, _&&_}
-use mathlib.Core.List.{List}
+use mathlib.Core.Path.{_≡_, refl, sym, ap, _∙_}
+use mathlib.Core.Bool.{Bool, true, false, not, cond}
 use Prim.Native.Nat.{ℕ, zero, suc, _<_, _≤_}
 use native.Mathlib.Omega.{arith}
 use lib.Dec.{T, eqb, ltb→lt, eqb·suc-zero}
 use lib.IntN.{ℤ, pos, negsuc, natAbs}
 use lib.Signed.{leZ, ltZ}
 use Rattle.integers.proofs.Tests.{and-out}
-use lib.ListN.{length}
 use borrow.Author.Tests.{not-true, not-false}
 use Rattle.integers.specs.Range.{eqZ}
 use Rattle.model.specs.Job.{Job, lags, lag-a, lag-b}
-use Rattle.model.specs.Rules.{Rule, lag-upper, lag-lower, reservoir, rule, own-end}
+use Rattle.model.specs.Rules.{Rule, reservoir, rule, own-end}
 use Rattle.model.specs.Slips.{Explanation, number}
 use Rattle.model.specs.Questions.{is-event}
 use Rattle.model.specs.Reader.{end, has-bound, kind-fits, subjects, target-fits, rule-of, subject-of, target-of, premises-fit, names}

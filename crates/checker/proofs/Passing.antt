@@ -1,26 +1,25 @@
 -- Questions 14 to 18 of one slip, way by way, as the reader asks them.
 -- Assumes nothing.
-use mathlib.Core.Path.{_≡_, refl, sym, ap, subst, _∙_}
+use mathlib.Core.Path.{_≡_, sym, ap, subst, _∙_}
 use mathlib.Core.Bool.{Bool, true, false, not, _&&_}
 use mathlib.Core.List.{List}
-use Prim.Native.Nat.{ℕ, zero, suc, _+_, _*_, _<_, _≤_}
+use Prim.Native.Nat.{ℕ, _<_}
 use native.Mathlib.Omega.{arith}
-use lib.Dec.{T, eqb}
+use lib.Dec.{T}
 use lib.IntN.{ℤ, pos, natAbs}
 use lib.Signed.{leZ}
 use borrow.Author.Tests.{eq-eqb, ne-eqb, not-true, not-false}
 use Rattle.integers.specs.Range.{Within, eqZ}
 use Rattle.integers.proofs.Linear.{ints}
-use Rattle.integers.proofs.Tests.{true-is}
 use Rattle.model.specs.Job.{End, t-min, t-max, h-min, h-max, Windows, Reservoir, Job, Inside, meets}
-use Rattle.model.specs.Rules.{Finding, bound, rule, own-end, Effect, effect}
+use Rattle.model.specs.Rules.{bound, rule, own-end, Effect, effect}
 use Rattle.model.specs.Slips.{Premise, Explanation}
 use Rattle.model.specs.Questions.{Check, pass, refuse, is-event}
 use Rattle.model.specs.Reader.{names, all-true, narrowed, gives, is-narrowing, fits-there, slip-questions, subjects, premises-fit, rule-of, subject-of, target-of, target-fits, kind-fits}
 use Rattle.model.proofs.Order.{inside-narrowed, narrowed-in}
 use Rattle.model.proofs.Sound.{named}
-use Rattle.rules.specs.Values.{span, Ranged, Reserved, Lagged, Put, job-of}
-use Rattle.checker.specs.Slip.{headed, explanation-of, Same, Lags, Stands, numbered}
+use Rattle.rules.specs.Values.{span, Ranged, Reserved, Put, job-of}
+use Rattle.checker.specs.Slip.{headed, explanation-of, Same, Lags, Stands}
 use Rattle.checker.specs.declared.Slip.{Slip}
 use Rattle.checker.proofs.Named.{subject-lag, subject-event, event-is}
 

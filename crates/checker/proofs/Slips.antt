@@ -1,7 +1,7 @@
 -- What the tests of question 13 come to, way by way.
 -- Assumes nothing.
-use mathlib.Core.Path.{_≡_, refl, sym, ap, _∙_}
-use mathlib.Core.Bool.{Bool, true, false, not, _&&_, cond}
+use mathlib.Core.Path.{_≡_, refl, sym, _∙_}
+use mathlib.Core.Bool.{Bool, true, false, not, _&&_}
 use mathlib.Core.List.{List}
 use Prim.Native.Nat.{ℕ, _+_, _*_, _<_, _≤_}
 use lib.Dec.{T, leb, leb→le}
@@ -15,8 +15,8 @@ use Rattle.integers.proofs.Linear.{ints}
 use Rattle.integers.proofs.Tests.{and-yes, and-no, and-out, is-true}
 use Rattle.model.specs.Questions.{in-range}
 use Rattle.model.specs.Slips.{slip-length}
-use Rattle.model.specs.Reader.{Reading, slip, cut, at, whole, premise-count, premises-at, slip-at, reading}
-use Rattle.checker.specs.Slip.{Sized, Stands, explanation-of, reading-of}
+use Rattle.model.specs.Reader.{slip, cut, at, whole, premise-count, slip-at, reading}
+use Rattle.checker.specs.Slip.{Sized, Stands, explanation-of}
 use Rattle.checker.specs.declared.Slip.{Slip}
 
 module _ (list : List ℤ) (stop p m : ℕ) where

@@ -5,18 +5,17 @@ use mathlib.Core.Bool.{Bool, true, false}
 use mathlib.Core.List.{List}
 use Prim.Native.Nat.{ℕ, zero, suc, _+_, _*_, _-_, _<_, _≤_}
 use native.Mathlib.Omega.{arith}
-use lib.Dec.{T}
 use lib.IntN.{ℤ, pos, natAbs}
 use lib.ListN.{set, length, length-set}
 use Rattle.integers.specs.Range.{eqZ}
-use Rattle.model.specs.Job.{Windows, windows, Job, word, slot}
+use Rattle.model.specs.Job.{Windows, windows, Job, word}
 use Rattle.model.specs.Rules.{rule, own-end}
 use Rattle.model.specs.Slips.{Premise, Explanation}
 use Rattle.model.specs.Questions.{Check, pass, refuse}
 use Rattle.model.specs.Reader.{Reading, slip, cut, reading, slip-questions, is-conflict, applied, read-from}
 use Rattle.tables.specs.Board.{table-of, Whole as Full}
 use Rattle.tables.proofs.Board.{table-set}
-use Rattle.checker.specs.Slip.{headed, explanation-of, reading-of, Placed, Stands, Applies, numbered, turn, Turn, on, off}
+use Rattle.checker.specs.Slip.{headed, explanation-of, reading-of, Placed, Stands, Applies, numbered, turn, on, off}
 use Rattle.checker.specs.declared.Read.{Read}
 use Rattle.checker.specs.declared.Read.the-variants.{Whole, Cut}
 use Rattle.checker.specs.declared.Slip.{Slip}

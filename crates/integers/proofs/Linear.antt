@@ -13,7 +13,7 @@ use native.Mathlib.Omega.{arith}
 use borrow.Author.Tests.{eqb-true, eqb-false, eq-eqb, ne-eqb}
 use lib.Dec.{T, eqb, ltb, leb, ltb→lt, nltb→le, leb→le, nleb→lt, le→leb, lt→ltb}
 use lib.IntN.{ℤ, pos, negsuc, _+ℤ_, _-ℤ_, _*ℤ_, negℤ, subℕ, natAbs}
-use lib.Signed.{leZ, ltZ, _≤ℤ_, _<ℤ_, mag, nonNeg, quotZ, remZ, mag-rem}
+use lib.Signed.{leZ, ltZ, mag, nonNeg, quotZ, remZ, mag-rem}
 use native.Mathlib.Nat.{div-le-self, lt-of-le-of-lt}
 use mir.Val.{Fits, SFits, toZ, ofZ, hbits, bits}
 use mir.Syntax.{Width, w32, w64}

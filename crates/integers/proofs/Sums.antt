@@ -1,11 +1,11 @@
 -- Sums over 0 .. n - 1, compared term by term, and but for one term.
 -- Assumes nothing.
-use mathlib.Core.Path.{_≡_, refl, sym, ap, ap₂, _∙_}
+use mathlib.Core.Path.{_≡_, refl, ap, ap₂}
 use Prim.Native.Nat.{ℕ, zero, suc, _+_, _*_, _≤_, _<_}
 use native.Mathlib.Decide.{ℕ-discrete}
 use native.Mathlib.Omega.{arith}
-use lib.IntN.{ℤ, pos, negsuc, negℤ, _+ℤ_, _-ℤ_}
-use lib.Signed.{_≤ℤ_, _<ℤ_}
+use lib.IntN.{ℤ, negℤ, _+ℤ_}
+use lib.Signed.{_≤ℤ_}
 use Rattle.integers.specs.Range.{Within}
 use Rattle.integers.specs.Sum.{sum}
 use Rattle.integers.proofs.Linear.{ints, add-law, neg-law}

@@ -2,10 +2,10 @@
 -- Assumes nothing.
 use mathlib.Core.Path.{_≡_}
 use Prim.Native.Nat.{ℕ, _≤_, _<_}
-use lib.IntN.{ℤ, pos}
+use lib.IntN.{pos}
 use lib.Signed.{_≤ℤ_}
 use Rattle.integers.specs.Range.{Within}
-use Rattle.model.specs.Job.{End, t-min, t-max, h-min, h-max, Windows, Inside, widest, Job, lags, lag-a, lag-b, lag-d}
+use Rattle.model.specs.Job.{t-min, t-max, h-min, h-max, Windows, Inside, widest, Job, lags, lag-a, lag-b, lag-d}
 
 -- A job that questions 1 to 4 and 7 to 10 let pass.
 pub record Sane (j : Job) : Type 0 where

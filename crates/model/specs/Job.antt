@@ -4,7 +4,7 @@ use mathlib.Core.List.{List}
 use Prim.Native.Nat.{ℕ, _+_, _*_, _/_, _<_}
 use lib.Dec.{T}
 use lib.IntN.{ℤ, pos, negsuc, natAbs, _+ℤ_, _-ℤ_}
-use lib.ListN.{getD, set, length}
+use lib.ListN.{getD, length}
 use lib.Signed.{leZ, ltZ, _≤ℤ_}
 use Rattle.integers.specs.Sum.{sum}
 

@@ -3,10 +3,10 @@ use mathlib.Core.List.{List, _++_}
 use Prim.Native.Nat.{ℕ, _+_}
 use lib.IntN.{ℤ}
 use lib.ListN.{length, drop}
-use Rattle.model.specs.Job.{Job, job}
+use Rattle.model.specs.Job.{job}
 use Rattle.model.specs.Slips.{trailer}
 use Rattle.model.specs.Rounds.{Verdict, State, Run, run, start}
-use Rattle.model.specs.Questions.{Check, pass, refuse, questions}
+use Rattle.model.specs.Questions.{pass, refuse, questions}
 
 -- The answer: refused, with number and place; or the verdict with the number of slips, of rounds begun, and the list's length in words (these three 0 from the reader).
 pub data Reply : Type 0 where

@@ -7,7 +7,7 @@ use lib.IntN.{ℤ, pos, negsuc}
 use lib.ListN.{length}
 use lib.Signed.{leZ, ltZ}
 use Rattle.integers.specs.Range.{eqZ}
-use Rattle.model.specs.Job.{t-min, t-max, h-min, h-max, Windows, windows, Job, job, lags, lag-word}
+use Rattle.model.specs.Job.{t-min, t-max, h-min, h-max, Windows, windows, Job, lags, lag-word}
 
 -- A "no" ends the call with the question's number and the place of the first event, lag or slip concerned.
 pub data Check : Type 0 where

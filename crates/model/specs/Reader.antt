@@ -1,18 +1,18 @@
 -- Document 01, questions 12 to 19: the slip reader (checker), and its whole outcome from the words at entry.
-use mathlib.Core.Bool.{Bool, true, false, not, cond, _&&_, _||_}
+use mathlib.Core.Bool.{Bool, true, false, not, cond, _&&_}
 use mathlib.Core.List.{List, [], _∷_}
 use Prim.Native.Nat.{ℕ, zero, suc, _+_, _*_, _-_}
 use lib.Dec.{eqb, leb}
 use lib.IntN.{ℤ, pos, natAbs}
 use lib.ListN.{getD, length, set}
-use lib.Signed.{leZ, ltZ}
+use lib.Signed.{leZ}
 use Rattle.integers.specs.Range.{eqZ}
-use Rattle.model.specs.Job.{End, t-min, t-max, h-min, h-max, opposite, meets, word, slot, Windows, windows, widest, Job, job, lags, lag-a, lag-b}
-use Rattle.model.specs.Rules.{Rule, lag-upper, lag-lower, reservoir, Family, level, time, height, rule, Finding, nothing, clash, bound, finding, own-end, Effect, idle, narrows, fails, effect, failed}
+use Rattle.model.specs.Job.{End, t-min, t-max, h-min, h-max, meets, word, slot, Windows, windows, widest, Job, job, lags, lag-a, lag-b}
+use Rattle.model.specs.Rules.{Rule, lag-upper, lag-lower, reservoir, level, time, height, rule, Finding, nothing, clash, bound, finding, own-end, Effect, idle, narrows, fails, effect, failed}
 use Rattle.model.specs.Slips.{Premise, Explanation, number, slip-length}
 use Rattle.model.specs.Rounds.{Verdict, conflict, still-open}
 use Rattle.model.specs.Questions.{Check, pass, refuse, _then_, ask, is-event, in-range, questions}
-use Rattle.model.specs.Planner.{Reply, refused, done, Outcome}
+use Rattle.model.specs.Planner.{refused, done, Outcome}
 
 abbrev pub at : List ℤ → ℕ → ℤ
 at list i = getD list i (pos 0)

@@ -1,12 +1,12 @@
 -- Document 01, "A round": one attempt, the sweeps of a round in order, rounds until settled, conflict or stopped, with the counts.
 use mathlib.Core.Bool.{Bool, true, false, cond}
-use mathlib.Core.List.{List, [], _∷_, _++_}
+use mathlib.Core.List.{List, [], _++_}
 use Prim.Native.Nat.{ℕ, zero, suc, _+_}
 use lib.Dec.{eqb, leb}
-use lib.IntN.{ℤ, pos}
+use lib.IntN.{ℤ}
 use lib.ListN.{length, set}
-use Rattle.model.specs.Job.{End, slot, windows, Job, lags, lag-a, lag-b}
-use Rattle.model.specs.Rules.{Rule, rule, finding, own-end, Effect, idle, narrows, fails, effect}
+use Rattle.model.specs.Job.{slot, windows, Job, lags, lag-a, lag-b}
+use Rattle.model.specs.Rules.{rule, finding, own-end, Effect, idle, narrows, fails, effect}
 use Rattle.model.specs.Slips.{Explanation, slip-words, explanation}
 
 -- How a call ends; `still-open` is the reader's "open".

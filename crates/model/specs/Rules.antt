@@ -1,12 +1,12 @@
 -- Document 01, "The fourteen rules", its second half: what each rule gives on windows, and what that does to the target's window.
-use mathlib.Core.Bool.{Bool, true, false, not, cond, _&&_, _||_}
+use mathlib.Core.Bool.{Bool, true, false, cond, _&&_, _||_}
 use mathlib.Core.List.{List, [], _∷_}
 use Prim.Native.Nat.{ℕ, zero, suc, _+_, _-_}
-use lib.IntN.{ℤ, pos, negℤ, _+ℤ_, _-ℤ_}
+use lib.IntN.{ℤ, pos, _+ℤ_, _-ℤ_}
 use lib.ListN.{getD}
 use lib.Signed.{leZ, ltZ}
 use Rattle.model.specs.Job.{End, t-min, t-max, h-min, h-max, opposite, meets, Windows, Reservoir, Job, produces, consumes, lag-a, lag-b, lag-d}
-use Rattle.model.specs.Levels.{Switch, before, by, Place, sure, possible, never, place, most-in, most, sure-part, side-value, side-end, side, side-reservoir}
+use Rattle.model.specs.Levels.{Switch, Place, sure, possible, never, place, most-in, most, sure-part, side-value, side-end, side, side-reservoir}
 
 -- What a rule gives: nothing, a conflict of the levels, or a bound on its target.
 pub data Finding : Type 0 where

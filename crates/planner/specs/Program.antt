@@ -4,7 +4,7 @@ use mathlib.Core.List.{List, []}
 use Prim.Native.Nat.{ℕ}
 use lib.IntN.{ℤ, pos}
 use lib.ListN.{replicate}
-use Rattle.model.specs.Planner.{Outcome, refused, plan}
+use Rattle.model.specs.Planner.{refused, plan}
 use Rattle.text.specs.Grammar.{Input, job, malformed, job-text}
 use Rattle.text.specs.Output.{printed}
 use Rattle.text.specs.Buffer.{Printed}

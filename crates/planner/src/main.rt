@@ -1,5 +1,4 @@
 // The program: a job read from standard input, planned, and the answer printed on standard output.
-ghost use mathlib.Core.Path.{_≡_};
 ghost use Prim.Native.Nat.{_≤_};
 ghost use lib.ListN.{length};
 ghost use Rattle.propagator.specs.Plans.{reply-of};

@@ -1,7 +1,7 @@
 -- The whole call: from a table that passed its questions to the board, from the end of the run to what the call leaves.
 -- Assumes nothing.
 use mathlib.Core.Path.{_≡_, refl, sym, ap, _∙_}
-use mathlib.Core.Bool.{Bool, _&&_}
+use mathlib.Core.Bool.{_&&_}
 use mathlib.Core.List.{List, _++_, append-assoc}
 use Prim.Native.Nat.{ℕ, _+_, _*_, _/_, _%_, _≤_, _<_}
 use native.Mathlib.Omega.{arith}
@@ -11,14 +11,14 @@ use lib.ListN.{length, take, drop, take-append-drop}
 use lib.Seq.{length-take-le}
 use lib.Signed.{leZ, ltZ, _≤ℤ_}
 use Rattle.integers.proofs.Tests.{and-out}
-use Rattle.model.specs.Job.{End, windows, Job, job, lags, lag-word}
+use Rattle.model.specs.Job.{windows, Job, job, lags, lag-word}
 use Rattle.model.specs.Slips.{trailer}
 use Rattle.model.specs.Rounds.{run, start}
 use Rattle.model.specs.Questions.{pass, _then_, ask, each, questions, lag-events, lag-differs, lag-in-range, is-event}
 use Rattle.model.specs.Planner.{done, planned, plan}
 use Rattle.model.proofs.Questions.{Asked, asked, then-out, each-out}
 use Rattle.model.proofs.Ranges.{end-range}
-use Rattle.tables.specs.Board.{Whole, board, table-of, Loaded}
+use Rattle.tables.specs.Board.{table-of, Loaded}
 use Rattle.tables.specs.Asked.{check-of, reservoir-questions, window-questions, lag-questions, room-question}
 use Rattle.tables.specs.declared.Check.{Check}
 use Rattle.tables.specs.declared.Check.the-variants.{Pass, Refuse}

@@ -1,29 +1,28 @@
 -- One attempt: the rule is put as the rules take it, its effect on the board is that on the window table, and a slip written with the new end stored is what the model records.
 -- Assumes nothing.
 use mathlib.Core.Path.{_≡_, refl, sym, ap, _∙_}
-use mathlib.Core.Bool.{Bool, true, false, not, cond}
-use mathlib.Core.List.{List, _++_}
+use mathlib.Core.Bool.{Bool, true, false, not}
+use mathlib.Core.List.{List}
 use Prim.Native.Nat.{ℕ, zero, suc, _+_, _*_, _≤_, _<_}
 use native.Mathlib.Decide.{ℕ-discrete}
 use native.Mathlib.Omega.{arith}
 use borrow.Author.Tests.{le-leb, lt-leb, not-true, not-false}
-use lib.Dec.{T, leb}
+use lib.Dec.{T}
 use lib.IntN.{ℤ}
-use lib.ListN.{length, take, drop, set, length-set}
+use lib.ListN.{length, take, set, length-set}
 use lib.Seq.{length-take-le}
 use Rattle.integers.specs.Range.{Within}
-use Rattle.model.specs.Job.{End, t-min, t-max, h-min, h-max, word, slot, windows, Job, lags}
+use Rattle.model.specs.Job.{End, t-min, t-max, h-min, h-max, word, windows, Job, lags}
 use Rattle.model.specs.Rules.{rule, own-end, finding, Effect, idle, narrows, fails, effect}
-use Rattle.model.specs.Slips.{number, Explanation, premise-list, slip-words, explanation}
+use Rattle.model.specs.Slips.{number, premise-list, slip-words, explanation}
 use Rattle.model.specs.Rounds as model
 use Rattle.model.specs.Rounds.{State, running, ended, recorded, fits, acted, attempt}
 use Rattle.model.specs.Reader.{subjects}
 use Rattle.model.proofs.Agree.{Agree, agree-sym, outcome-agree, explanation-agree}
-use Rattle.model.proofs.Sweeps.{with-slip, with-stop}
 use Rattle.model.proofs.Words.{slip-words-length, premise-list-length}
 use Rattle.tables.specs.Board.{Whole, board, table-of}
 use Rattle.tables.proofs.Board.{windows-board, table-set, board-set-same, board-set-event, board-set-end}
-use Rattle.rules.specs.Values.{reservoir-of, effect-of, is-time, suits, span, Ranged, Reserved, Lagged, Put, Does}
+use Rattle.rules.specs.Values.{reservoir-of, effect-of, is-time, span, Ranged, Put, Does}
 use Rattle.rules.specs.Quotes.{cites-of, says-of, Cites, Appended}
 use Rattle.rules.specs.declared.Effect.{Effect as Done}
 use Rattle.rules.specs.declared.Citing.{Citing}

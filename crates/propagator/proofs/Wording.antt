@@ -1,12 +1,12 @@
 -- A slip's words appended part by part.
 -- Assumes nothing.
-use mathlib.Core.Path.{_≡_, refl}
-use mathlib.Core.List.{List, [], _∷_, _++_}
+use mathlib.Core.Path.{_≡_}
+use mathlib.Core.List.{List, [], _∷_}
 use Prim.Native.Nat.{ℕ, _+_, _*_, _≤_, _<_}
 use native.Mathlib.Omega.{arith}
 use lib.IntN.{ℤ, pos}
 use lib.ListN.{length}
-use Rattle.model.specs.Slips.{Premise, Explanation, premise-words, slip-words}
+use Rattle.model.specs.Slips.{Explanation, premise-words, slip-words}
 use Rattle.rules.specs.Quotes.{Appended}
 use Rattle.rules.proofs.Filling.{appended-both, words-length}
 

@@ -7,7 +7,6 @@ use crate::Verdict;
 use crate::attempts::is_running;
 use crate::sweeps::round;
 ghost use mathlib.Core.Path.{_≡_};
-ghost use lib.ListN.{length};
 ghost use Rattle.propagator.specs.State.{job-at, Fit, Held};
 ghost use Rattle.propagator.specs.Runs.{fresh, Tested, Ran};
 

@@ -1,19 +1,17 @@
 -- Demands 1 to 3 of the call that plans and then reads, from the two contracts and the theory's theorem alone.
 -- Assumes nothing.
-use mathlib.Core.Path.{_≡_, refl, sym, ap, subst, _∙_}
+use mathlib.Core.Path.{_≡_, refl, sym, ap, _∙_}
 use mathlib.Core.List.{List}
-use Prim.Native.Nat.{ℕ, _*_, _≤_, _/_}
+use Prim.Native.Nat.{ℕ, _≤_}
 use native.Mathlib.Omega.{arith}
 use lib.IntN.{ℤ}
 use lib.ListN.{length, take}
-use Rattle.model.specs.Job.{job}
 use Rattle.model.specs.Rounds.{Verdict, settled, conflict, stopped}
-use Rattle.model.specs.Questions.{pass, questions}
-use Rattle.model.specs.Planner.{Reply, refused, done, Outcome, plan}
+use Rattle.model.specs.Planner.{refused, done, plan}
 use Rattle.model.specs.Reader.{check}
-use Rattle.model.proofs.Questions.{Asked, asked}
+use Rattle.model.proofs.Questions.{asked}
 use Rattle.model.proofs.Refusals.{plan-passed, plan-lengths}
-use Rattle.model.proofs.Demand.{echoed, Demand3, Replay, Acceptance}
+use Rattle.model.proofs.Demand.{echoed, Demand3}
 use Rattle.model.proofs.DemandProof.{demand3, planner-keeps, planner-clash}
 use Rattle.propagator.specs.Plans.{reply-of as answer-of}
 use Rattle.checker.specs.Verdict.{reply-of as verdict-of}

@@ -6,7 +6,7 @@ use lib.IntN.{ℤ}
 use lib.ListN.{length, take}
 use Rattle.model.specs.Job.{windows, Schedule, value, Inside}
 use Rattle.model.specs.Rounds.{conflict, Verdict}
-use Rattle.model.specs.Planner.{Reply, refused, done, plan}
+use Rattle.model.specs.Planner.{refused, done, plan}
 use Rattle.model.proofs.Demand.{echoed, LegalPlan, Acceptance}
 use Rattle.propagator.specs.Plans.{reply-of as answer-of}
 use Rattle.checker.specs.Verdict.{reply-of as verdict-of}

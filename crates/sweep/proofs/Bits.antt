@@ -2,8 +2,8 @@
 -- Assumes nothing.
 use mathlib.Core.Path.{_≡_, refl, sym, ap, _∙_}
 use mathlib.Core.Bool.{true, false}
-use mathlib.Core.List.{List, [], _∷_}
-use Prim.Native.Nat.{ℕ, suc, _+_, _-_, _*_, _%_, _^_, _≤_, _<_}
+use mathlib.Core.List.{List}
+use Prim.Native.Nat.{ℕ, suc, _+_, _-_, _^_, _≤_, _<_}
 use native.Mathlib.Numerals.{add-one}
 use native.Mathlib.Omega.{arith}
 use lib.Dec.{T}
@@ -15,7 +15,7 @@ use mir.Facts.{toZ-ofZ, toZ-pos, toZ-neg, sfits-toZ}
 use mir.Syntax.{w32, w64}
 use mir.Val.{Fits, SFits, toZ, ofZ}
 use Rattle.integers.proofs.Linear.{ints, add-law, sub-law}
-use Rattle.sweep.specs.Words.{bits-of, word-of, mixed, folded, checksum}
+use Rattle.sweep.specs.Words.{bits-of, word-of, mixed, folded}
 
 -- ---- a word's bits
 

@@ -4,7 +4,7 @@ use mathlib.Core.Path.{_≡_, refl}
 use mathlib.Core.List.{List, [], _∷_}
 use Prim.Native.Nat.{ℕ}
 use Prim.Native.String.{String}
-use lib.IntN.{ℤ, pos, negsuc, negℤ}
+use lib.IntN.{ℤ, pos, negℤ}
 use Rattle.model.specs.Job.{windows}
 use Rattle.model.specs.Rounds.{settled, conflict, stopped}
 use Rattle.model.specs.Planner.{Reply, refused, done}

@@ -1,13 +1,13 @@
 -- The layout's definitions case by case, as the code's branches reach them.
 -- Assumes nothing.
 use mathlib.Core.Path.{_≡_, refl, sym, ap, ap₂, _∙_}
-use mathlib.Core.Bool.{Bool, true, false, cond, _&&_, and-false}
+use mathlib.Core.Bool.{Bool, true, false, _&&_, and-false}
 use mathlib.Core.List.{List, [], _∷_, _++_}
-use Prim.Native.Nat.{ℕ, suc, _+_, _*_, _-_, _≤_, _<_, min}
+use Prim.Native.Nat.{ℕ, _+_, _*_, _-_, _≤_, _<_, min}
 use native.Mathlib.Numerals.{add-one}
 use native.Mathlib.Decide.{decLe}
 use native.Mathlib.Omega.{arith}
-use borrow.Author.Tests.{eq-eqb, ne-eqb, eqb-true}
+use borrow.Author.Tests.{eq-eqb, ne-eqb}
 use lib.Dec.{T, eqb, leb→le, eqb→eq}
 use lib.IntN.{ℤ, pos, negsuc, natAbs}
 use lib.ListN.{length, getD, take, drop, set, length-drop, length-take}
@@ -16,9 +16,8 @@ use lib.Signed.{leZ, ltZ}
 use Rattle.integers.proofs.Linear.{ints}
 use Rattle.integers.proofs.Tests.{and-out, true-is, is-true}
 use Rattle.model.specs.Questions.{in-range}
-use Rattle.text.specs.Grammar.{Input, job, malformed, at, events, lags, counts-right, job-of}
+use Rattle.text.specs.Grammar.{Input, malformed, at, events, lags, counts-right, job-of}
 use Rattle.text.specs.Layout.{input, tables, counts-of, stored-of, head-of, size-of}
-use Rattle.text.specs.declared.layout.Counts.{Counts}
 use Rattle.text.specs.declared.layout.Counts.the-variants.{Are, Wrong}
 use Rattle.text.specs.Scanner.{State, state, ended, read, finished}
 use Rattle.text.specs.declared.scan.Scan.{Scan}

@@ -1,28 +1,28 @@
 -- The scanner reads what the grammar says: fed with a whole text, in whatever pieces, and finished, it gives `job-text` of that text.
 -- The invariant: the numbers stored, then those of the open word with the words to come, are the numbers of the whole text.
 -- Assumes nothing.
-use mathlib.Core.Path.{_≡_, refl, sym, ap, ap₂, subst, _∙_}
+use mathlib.Core.Path.{_≡_, refl, sym, ap, subst, _∙_}
 use mathlib.Core.Bool.{Bool, true, false, cond, _&&_}
 use mathlib.Core.List.{List, [], _∷_, _++_, append-assoc, append-nil}
 use mathlib.Core.Logic.{_⊎_, inl, inr, ⊎-elim}
-use Prim.Native.Nat.{ℕ, zero, suc, _+_, _*_, _-_, _≤_, _<_}
+use Prim.Native.Nat.{ℕ, _+_, _*_, _-_, _≤_, _<_}
 use native.Mathlib.Numerals.{add-one}
 use native.Mathlib.Omega.{arith}
-use borrow.Author.Tests.{eq-eqb, ne-eqb, eqb-true, eqb-false, leb-true, leb-false, ltb-true, ltb-false, lt-ltb, le-ltb, le-leb, lt-leb}
+use borrow.Author.Tests.{ne-eqb, eqb-true, leb-false, ltb-true, ltb-false, lt-leb}
 use lib.Dec.{T, eqb, leb, ltb}
 use lib.IntN.{ℤ, pos, negsuc, negℤ, natAbs}
-use lib.ListN.{length, getD, take, drop, set, length-append, length-take, length-set}
+use lib.ListN.{length, take, set, length-append, length-take, length-set}
 use lib.Seq.{take-suc-set}
 use lib.Signed.{leZ}
 use Rattle.integers.proofs.Linear.{ints, neg-law}
 use Rattle.model.specs.Questions.{in-range}
-use Rattle.integers.proofs.Tests.{and-out, true-is, is-true, is-false}
-use Rattle.text.specs.Grammar.{blank, minus, digit, prefixed, words, all-digits, decimal, value, in-32-bits, Parsed, numbers, ill-formed, number, word, then, all-numbers, Input, job, malformed, at, events, lags, counts-right, laid-out, job-of, meant, job-text}
+use Rattle.integers.proofs.Tests.{and-out, true-is}
+use Rattle.text.specs.Grammar.{blank, minus, digit, prefixed, words, all-digits, decimal, value, in-32-bits, Parsed, numbers, ill-formed, number, word, then, all-numbers, Input, malformed, at, events, lags, counts-right, job-of, meant, job-text}
 use Rattle.text.specs.Scanner.{State, state, signed, sized, kept, closed, ended, signed-word, valued, grown, step, fed, read, finished}
 use Rattle.text.specs.declared.scan.Scan.{Scan}
 use Rattle.text.specs.declared.scan.Scan.the-variants.{Between, Minus, Digits, Malformed}
 use Rattle.text.specs.declared.scan.Number.{Number}
-use Rattle.text.specs.declared.scan.Number.the-variants.{Word, Outside}
+use Rattle.text.specs.declared.scan.Number.the-variants.{Word}
 use Rattle.text.proofs.Steps.{fed-malformed}
 
 case : {P : Type 0} (b : Bool) → (b ≡ true → P) → (b ≡ false → P) → P

@@ -1,10 +1,9 @@
 -- The scanner's definitions case by case, as the code's branches reach them.
 -- Assumes nothing.
 use mathlib.Core.Path.{_≡_, refl, sym, ap, _∙_}
-use mathlib.Core.Bool.{Bool, true, false, cond, _&&_}
+use mathlib.Core.Bool.{Bool, true, false, cond}
 use mathlib.Core.List.{List, [], _∷_, _++_}
-use Prim.Native.Nat.{ℕ, suc, _+_, _*_, _-_, _≤_, _<_}
-use native.Mathlib.Omega.{arith}
+use Prim.Native.Nat.{ℕ, _+_, _-_, _≤_, _<_}
 use borrow.Author.Tests.{eq-eqb, ne-eqb, le-leb, lt-leb, lt-ltb, le-ltb}
 use native.Mathlib.Numerals.{add-one}
 use lib.Dec.{eqb, leb, leb→le}
@@ -14,11 +13,10 @@ use lib.Seq.{drop-cons}
 use lib.Signed.{leZ}
 use Rattle.integers.proofs.Linear.{ints, neg-law}
 use Rattle.integers.proofs.Tests.{and-out, true-is}
-use Rattle.text.specs.Grammar.{blank, minus, digit, in-32-bits}
-use Rattle.text.specs.Scanner.{State, state, signed, sized, kept, closed, ended, signed-word, valued, grown, step, fed}
+use Rattle.text.specs.Grammar.{blank, minus, digit}
+use Rattle.text.specs.Scanner.{State, state, sized, kept, ended, signed-word, valued, grown, step, fed}
 use Rattle.text.specs.declared.scan.Scan.{Scan}
-use Rattle.text.specs.declared.scan.Scan.the-variants.{Between, Minus, Digits, Malformed}
-use Rattle.text.specs.declared.scan.Number.{Number}
+use Rattle.text.specs.declared.scan.Scan.the-variants.{Between, Digits, Malformed}
 use Rattle.text.specs.declared.scan.Number.the-variants.{Word, Outside}
 
 pub blank-rest : (b : ℕ) → (b ≡ 32 → ⊥) → (b ≡ 9 → ⊥) → (b ≡ 10 → ⊥) → eqb b 13 ≡ blank b

@@ -6,7 +6,6 @@ use Prim.Native.Nat.{ℕ, _+_, _*_, _-_}
 use lib.Dec.{eqb, leb}
 use lib.IntN.{ℤ, pos, negsuc, negℤ, natAbs}
 use lib.ListN.{length, getD, take, drop}
-use lib.Signed.{leZ}
 use Rattle.model.specs.Questions.{in-range}
 
 -- ---- bytes

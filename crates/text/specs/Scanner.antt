@@ -1,5 +1,5 @@
 -- The text byte by byte: the code's own state, its step at a byte and its end, as definitions. proofs/Reading.antt shows that they read what Grammar.antt says.
-use mathlib.Core.Bool.{Bool, true, false, cond, _&&_}
+use mathlib.Core.Bool.{Bool, true, false, cond}
 use mathlib.Core.List.{List, [], _∷_}
 use Prim.Native.Nat.{ℕ, _+_, _*_, _-_}
 use lib.Dec.{ltb, leb}

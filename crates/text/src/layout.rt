@@ -1,8 +1,7 @@
 // The job that a whole text says: its numbers, counted and laid out as a head, a window table and a lag table.
 ghost use mathlib.Core.Path.{_≡_};
 ghost use Prim.Native.Nat.{_+_, _*_, _≤_, _<_, min};
-ghost use lib.IntN.{pos};
-ghost use lib.ListN.{length, take, drop, getD};
+ghost use lib.ListN.{length, take, drop};
 ghost use Rattle.text.specs.Grammar.{at, job-of, job-text};
 ghost use Rattle.text.specs.Scanner.{state, finished};
 ghost use Rattle.text.specs.Layout.{input, Handed, tables, counts-of, stored-of, head-of, size-of};

@@ -1,7 +1,7 @@
 // The program's output, put into a lent buffer of bytes.
 ghost use mathlib.Core.Path.{_≡_};
-ghost use mathlib.Core.List.{[], _∷_, _++_};
-ghost use Prim.Native.Nat.{ℕ, _+_, _*_, _/_, _≤_, _<_};
+ghost use mathlib.Core.List.{[], _∷_};
+ghost use Prim.Native.Nat.{_+_, _*_, _/_, _≤_, _<_};
 ghost use lib.IntN.{pos, natAbs};
 ghost use lib.ListN.{length, getD};
 ghost use Rattle.model.specs.Job.{windows};

@@ -1,9 +1,7 @@
 // The numbers of a text, read byte by byte in pieces of any length.
 ghost use mathlib.Core.Path.{_≡_};
-ghost use mathlib.Core.Bool.{Bool, _&&_, cond};
-ghost use Prim.Native.Nat.{_+_, _*_, _-_, _≤_, _<_};
-ghost use lib.IntN.{ℤ, pos};
-ghost use lib.ListN.{length};
+ghost use mathlib.Core.Bool.{_&&_};
+ghost use Prim.Native.Nat.{_+_, _*_, _-_, _<_};
 ghost use Rattle.text.specs.Grammar.{blank, digit as digit-byte};
 ghost use Rattle.text.specs.Scanner.{state, sized, kept, closed, ended, signed-word, grown, valued as valued-digits, step as stepped, fed};
 

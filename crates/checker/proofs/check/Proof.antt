@@ -1,5 +1,5 @@
 -- `checker::check` meets its contract: refused by its questions, by the trailer, or judged. Assumes nothing.
-use mathlib.Core.Path.{refl, ap, _∙_}
+use mathlib.Core.Path.{ap}
 use mir.Facts.{toZ-ofZ}
 use borrow.Author.Needs.{needs}
 use Rattle.rules.specs.Values.{reservoir-of}

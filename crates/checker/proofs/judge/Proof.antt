@@ -1,6 +1,5 @@
 -- `checker::judge` gives the verdict of the reader and stores its windows. Assumes nothing.
 use mathlib.Core.Path.{refl}
-use native.Mathlib.Omega.{arith}
 use borrow.Author.Needs.{needs}
 use Rattle.rules.specs.Values.{reservoir-of}
 use Rattle.checker.proofs.Judging.{few, whole-events, trailer-right, call, stored}

@@ -1,5 +1,4 @@
 -- `checker::judge_slips` gives the verdict and the windows of the reader. Assumes nothing.
-use mathlib.Core.Path.{refl, sym, _∙_}
 use native.Mathlib.Omega.{arith}
 use borrow.Author.Needs.{needs}
 use Rattle.rules.specs.Values.{reservoir-of}

@@ -1,7 +1,6 @@
 -- `checker::premises::tighten` meets its contract.
 -- Assumes nothing.
 use lib.ListN.{length-set}
-use mathlib.Core.Path.{_∙_}
 use Rattle.checker.proofs.Facts.{keeps-same, breaks-same}
 use Rattle.integers.proofs.Linear.{back32}
 use native.Mathlib.Omega.{arith}

@@ -1,5 +1,4 @@
 -- `propagator::sweeps::targets_from` goes through the targets of a rule. The loop's invariant: what is left from y on is, from the start, the whole sweep. Assumes nothing.
-use mathlib.Core.Path.{_≡_}
 use Prim.Native.Nat.{_≤_, _-_}
 use native.Mathlib.Nat.{sub-zero}
 use native.Mathlib.Omega.{arith}

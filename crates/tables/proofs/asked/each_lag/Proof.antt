@@ -3,7 +3,6 @@ use mathlib.Core.Path.{_≡_, _∙_}
 use Prim.Native.Nat.{_≤_, _-_}
 use native.Mathlib.Nat.{sub-zero}
 use native.Mathlib.Omega.{arith}
-use Rattle.model.specs.Job.{windows}
 use Rattle.model.specs.Questions.{each}
 use Rattle.tables.specs.Asked.{lag-right, lag-job}
 use Rattle.tables.proofs.Questions.{each-end, each-no, each-yes}

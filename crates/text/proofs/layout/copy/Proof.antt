@@ -1,6 +1,6 @@
 -- `text::layout::copy` meets its contract. The invariant: the first i words are copied. The measure is what is left to copy.
 -- Assumes nothing.
-use mathlib.Core.Path.{_≡_, refl, _∙_}
+use mathlib.Core.Path.{_≡_, refl}
 use Prim.Native.Nat.{_+_, _-_, _≤_}
 use native.Mathlib.Omega.{arith}
 use lib.IntN.{pos}

@@ -1,7 +1,7 @@
 -- `text::scan::feed` meets its contract. The invariant: what is left of the piece, fed to the state so far, gives what the whole piece gives.
 -- The measure is what is left of the piece. Assumes nothing.
 use mathlib.Core.Path.{_≡_, refl, _∙_}
-use Prim.Native.Nat.{_≤_, _-_}
+use Prim.Native.Nat.{_-_}
 use native.Mathlib.Omega.{arith}
 use lib.ListN.{length, drop}
 use Rattle.text.specs.Scanner.{state, fed}

@@ -1,6 +1,6 @@
 -- `text::scan::with_sign` meets its contract: the tests leave just the values that fit.
 -- Assumes nothing.
-use mathlib.Core.Path.{_≡_, _∙_}
+use mathlib.Core.Path.{_∙_}
 use native.Mathlib.Omega.{arith}
 use lib.IntN.{pos}
 use mir.Syntax.{w64}
