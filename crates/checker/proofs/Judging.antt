@@ -18,7 +18,7 @@ use Rattle.model.proofs.Questions.{Asked, asked}
 use Rattle.tables.specs.Board.{board, table-of, Loaded}
 use Rattle.tables.specs.Asked.{check-of}
 use Rattle.rules.specs.Values.{job-of}
-use Rattle.checker.specs.Slip.{Lags, Called, Ends}
+use Rattle.checker.specs.Slip.{Called, Ends}
 use Rattle.checker.specs.Wide.{Wide}
 use Rattle.checker.specs.Verdict.{trailed, closed-at, reply-of, accepting, left-by, closing-reply, called, Passing, Trailed, read-over, found, Judges}
 use Rattle.checker.specs.declared.Ended.{Ended}
@@ -104,25 +104,9 @@ module _ (h : ℤ) (c : Reservoir) (table lags list : List ℤ) (p : Passing (ca
   pub whole-events : length table ≡ 4 * n
   whole-events = facts .whole-events
 
-  lags-right : Lags n lags
-  lags-right =
-      let s = facts .sane in
-      record {
-        few-events = s .few-events;
-        few-lags = facts .few-lag-words;
-        each = λ g l. record {
-          there = l;
-          a-low = facts .lag-signs g l .0;
-          b-low = facts .lag-signs g l .1;
-          a-high = s .real-a g l;
-          b-high = s .real-b g l;
-          gap = s .gap-range g l;
-        };
-      }
-
   module _ (b wide : List ℤ) (loaded : Loaded n table b) (opened : Wide n h (board b) wide) where
     pub call : Called h lags n c wide b
-    call = record { sane = facts .sane; lags-right = lags-right; standing = rw (loaded .is) (facts .standing); whole = loaded .whole; opened = opened }
+    call = record { sane = facts .sane; standing = rw (loaded .is) (facts .standing); whole = loaded .whole; opened = opened }
 
     -- The windows stored follow the verdict.
     pub stored : (b′ : List ℤ) {table′ : List ℤ} (v : Verdict) {whole : Bool} → whole ≡ accepting v → table′ ≡ cond whole (table-of n b′) table →

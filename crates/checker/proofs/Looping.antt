@@ -17,6 +17,7 @@ use Rattle.model.proofs.Standing.{Standing}
 use Rattle.model.proofs.Agree.{Agree}
 use Rattle.model.proofs.Ranges.{end-range}
 use Rattle.model.proofs.Accepted.{passed, passed-standing}
+use Rattle.rules.proofs.Putting.{reserved}
 use Rattle.tables.specs.Board.{board, table-of, Whole as Full}
 use Rattle.tables.proofs.Board.{windows-board, length-table}
 use Rattle.rules.specs.Values.{span, job-of}
@@ -83,8 +84,7 @@ module _ (h : ℤ) (lags list : List ℤ) (n stop count : ℕ) (c : Reservoir) (
         record {
           horizon = h;
           sane = s;
-          lags-right = call .lags-right;
-          limits = record { min-range = s .min-range; max-range = s .max-range; initial-range = s .initial-range };
+          limits = reserved s;
           whole = call .opened .whole;
           wide-range = record { few = s .few-events; range = λ y l k. rw (opened y l k) (widest-range h sent y k (s .horizon-low) (s .horizon-high)) };
           range = record { few = s .few-events; range = λ y l k. rw (on-board n b y l k) (end-range s (here .standing) y l k) };

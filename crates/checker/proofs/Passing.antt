@@ -18,6 +18,8 @@ use Rattle.model.specs.Questions.{Check, pass, refuse, is-event}
 use Rattle.model.specs.Reader.{names, all-true, narrowed, gives, is-narrowing, fits-there, slip-questions, subjects, premises-fit, rule-of, subject-of, target-of, target-fits, kind-fits}
 use Rattle.model.proofs.Order.{inside-narrowed, narrowed-in}
 use Rattle.model.proofs.Sound.{named}
+use Rattle.model.proofs.Standing.{Sane}
+use Rattle.rules.proofs.Putting.{lagged}
 use Rattle.rules.specs.Values.{span, Ranged, Reserved, Put, job-of}
 use Rattle.checker.specs.Slip.{headed, explanation-of, Same, Lags, Stands}
 use Rattle.checker.specs.declared.Slip.{Slip}
@@ -84,6 +86,10 @@ same-range n W X s r = record { few = r .few; range = λ y l k. subst (λ z. Wit
 pub put-same : (lags : List ℤ) (n : ℕ) (c : Reservoir) (W X : Windows) (r e y : ℕ) → Same W X → Put lags n c X r e y → Put lags n c W r e y
 put-same lags n c W X r e y s p =
     record { first = p .first; last = p .last; windows = same-range n W X s (p .windows); limits = p .limits; lag = p .lag; event = p .event; target = p .target }
+
+-- The lags of a job that passed its questions.
+pub lags-of : {h : ℤ} {c : Reservoir} {n : ℕ} {lags : List ℤ} → Sane (job-of h c n lags) → Lags n lags
+lags-of s = record { few-events = s .few-events; few-lags = s .few-lags; each = lagged s }
 
 -- A slip that names what is there can be put.
 pub put-slip : (lags list : List ℤ) (n : ℕ) (h : ℤ) (c : Reservoir) (X : Windows) (s : Slip) {e y : ℕ} → Lags n lags → Stands list s → Reserved c → Ranged n X → e ≡ natAbs (s .subject .0) → y ≡ natAbs (s .target .0) →

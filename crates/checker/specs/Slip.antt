@@ -72,14 +72,13 @@ Placed list stop Cut = Unit {0}
 -- The lags of a job of n events, as questions 7 to 10 let them pass.
 pub record Lags (n : ℕ) (lags : List ℤ) : Type 0 where
   pub few-events : n ≤ 64
-  pub few-lags : length lags ≤ 768
+  pub few-lags : length lags / 3 ≤ 256
   pub each : (g : ℕ) → g < length lags / 3 → Lagged n lags g
 
 -- What a call has when it reads a slip: lags and limits in their ranges, the wide board and the standing windows on the board inside it.
 pub record Ready (lags : List ℤ) (n : ℕ) (c : Reservoir) (wide b : List ℤ) : Type 0 where
   pub horizon : ℤ
   pub sane : Sane (job-of horizon c n lags)
-  pub lags-right : Lags n lags
   pub limits : Reserved c
   pub whole : Full wide
   pub wide-range : Ranged n (board wide)
@@ -157,7 +156,6 @@ Stepped n t b b′ stop (On next c) =
 -- A call whose questions 1 to 11 passed: the windows sent in stand on the board b, the widest ones on the wide board.
 pub record Called (h : ℤ) (lags : List ℤ) (n : ℕ) (c : Reservoir) (wide b : List ℤ) : Type 0 where
   pub sane : Sane (job-of h c n lags)
-  pub lags-right : Lags n lags
   pub standing : Standing (job-of h c n lags) (windows (table-of n b)) (windows (table-of n b))
   pub whole : Full b
   pub opened : Wide n h (board b) wide

@@ -208,7 +208,8 @@ pub fn check(
     lags: &[i32],
     list: &[i32],
 ) -> Verdict
-    ensures { λ v. ⌜ Judges (check h low high q (now (table .entry)) (now (lags .entry)) (now (list .entry))) (now (table .exit)) v ⌝ }
+    ensures answer { λ v. ⌜ reply-of v ≡ check h low high q (now (table .entry)) (now (lags .entry)) (now (list .entry)) .reply ⌝ }
+    ensures windows { λ v. ⌜ now (table .exit) ≡ check h low high q (now (table .entry)) (now (lags .entry)) (now (list .entry)) .table ⌝ }
 {
     let asked = questions(h, low, high, q, table, lags, list.len());
     match asked {

@@ -8,7 +8,7 @@ use crate::words::word_is;
 use rules::findings::variant;
 use rules::lags::lag_event;
 ghost use mathlib.Core.Path.{_≡_};
-ghost use Prim.Native.Nat.{_≤_};
+ghost use Prim.Native.Nat.{_/_, _≤_};
 ghost use lib.IntN.{ℤ};
 ghost use Rattle.model.specs.Questions.{is-event};
 ghost use Rattle.model.specs.Slips.{number};
@@ -69,7 +69,7 @@ pub fn kind_right(r: usize, kind: Word, value: Word) -> bool
 
 // Is the subject a lag in rules 1 and 2, else an event?
 pub fn subject_there(lags: &[i32], n: usize, r: usize, subject: Word) -> bool
-    requires { do ⌜ (1 ≤ r) × (r ≤ 14) × (n ≤ 64) × ((← ⟦lags.len()⟧) ≤ 768) ⌝ }
+    requires { do ⌜ (1 ≤ r) × (r ≤ 14) × (n ≤ 64) × ((← ⟦lags.len()⟧) / 3 ≤ 256) ⌝ }
     ensures { λ b. ⌜ ((h : ℤ) (c : Cage) → b ≡ is-event (subjects (rule r) (job-of h c n (now (lags .entry)))) (subject .0)) ⌝ }
 {
     if r < 3 {

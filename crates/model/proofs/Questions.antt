@@ -150,7 +150,6 @@ pub record Asked (h low high q : ℤ) (table lag-words : List ℤ) (room : ℕ) 
   pub whole-events : length table ≡ 4 * (length table / 4)
   pub whole-lags : length lag-words ≡ 3 * (length lag-words / 3)
   pub few-lag-words : length lag-words ≤ 768
-  pub lag-signs : (g : ℕ) → g < length lag-words / 3 → (pos 0 ≤ℤ lag-word (job h low high q table lag-words) g 0) × (pos 0 ≤ℤ lag-word (job h low high q table lag-words) g 1)
   pub room-low : 3 ≤ room
   pub room-high : room ≤ 1000000
 
@@ -262,6 +261,8 @@ module _ (h low high q : ℤ) (table lag-words : List ℤ) (room : ℕ) where
         initial-max = t3 .1;
         few-events = omega arith;
         few-lags = omega arith;
+        sign-a = λ g l. event-sign (j .events) (lag-word j g 0) (lags-real a g l .0);
+        sign-b = λ g l. event-sign (j .events) (lag-word j g 1) (lags-real a g l .1);
         real-a = λ g l. event-below (j .events) (lag-word j g 0) (lags-real a g l .0);
         real-b = λ g l. event-below (j .events) (lag-word j g 1) (lags-real a g l .1);
         distinct = λ g l. events-differ (j .events) (lag-word j g 0) (lag-word j g 1) (lags-real a g l .0) (lags-real a g l .1) (each-out 9 (lag-differs j) 0 (lags j) (a .q9) g (omega arith) (omega arith));
@@ -320,7 +321,6 @@ module _ (h low high q : ℤ) (table lag-words : List ℤ) (room : ℕ) where
         whole-events = omega arith;
         whole-lags = omega arith;
         few-lag-words = leb→le (length lag-words) 768 (t7 .1);
-        lag-signs = λ g l. (event-sign (j .events) (lag-word j g 0) (lags-real a g l .0), event-sign (j .events) (lag-word j g 1) (lags-real a g l .1));
         room-low = leb→le 3 room (t11 .0);
         room-high = leb→le room 1000000 (t11 .1);
       }

@@ -265,6 +265,8 @@ side-sane true {j} s =
       initial-max = let a = s .min-initial in omega (ints, neg-law (j .reservoir .initial), neg-law (j .reservoir .min-level));
       few-events = s .few-events;
       few-lags = s .few-lags;
+      sign-a = s .sign-a;
+      sign-b = s .sign-b;
       real-a = s .real-a;
       real-b = s .real-b;
       distinct = s .distinct;

@@ -5,7 +5,7 @@ use Prim.Native.Nat.{ℕ, _≤_, _<_}
 use lib.IntN.{pos}
 use lib.Signed.{_≤ℤ_}
 use Rattle.integers.specs.Range.{Within}
-use Rattle.model.specs.Job.{t-min, t-max, h-min, h-max, Windows, Inside, widest, Job, lags, lag-a, lag-b, lag-d}
+use Rattle.model.specs.Job.{t-min, t-max, h-min, h-max, Windows, Inside, widest, Job, lags, lag-word, lag-a, lag-b, lag-d}
 
 -- A job that questions 1 to 4 and 7 to 10 let pass.
 pub record Sane (j : Job) : Type 0 where
@@ -18,6 +18,8 @@ pub record Sane (j : Job) : Type 0 where
   pub initial-max : j .reservoir .initial ≤ℤ j .reservoir .max-level
   pub few-events : j .events ≤ 64
   pub few-lags : lags j ≤ 256
+  pub sign-a : (g : ℕ) → g < lags j → pos 0 ≤ℤ lag-word j g 0
+  pub sign-b : (g : ℕ) → g < lags j → pos 0 ≤ℤ lag-word j g 1
   pub real-a : (g : ℕ) → g < lags j → lag-a j g < j .events
   pub real-b : (g : ℕ) → g < lags j → lag-b j g < j .events
   pub distinct : (g : ℕ) → g < lags j → lag-a j g ≡ lag-b j g → ⊥

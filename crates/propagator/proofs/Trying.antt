@@ -20,15 +20,17 @@ use Rattle.model.specs.Rounds.{State, running, ended, recorded, fits, acted, at
 use Rattle.model.specs.Reader.{subjects}
 use Rattle.model.proofs.Agree.{Agree, agree-sym, outcome-agree, explanation-agree}
 use Rattle.model.proofs.Words.{slip-words-length, premise-list-length}
+use Rattle.model.proofs.Standing.{Sane}
 use Rattle.tables.specs.Board.{Whole, board, table-of}
 use Rattle.tables.proofs.Board.{windows-board, table-set, board-set-same, board-set-event, board-set-end}
 use Rattle.rules.specs.Values.{reservoir-of, effect-of, is-time, span, Ranged, Put, Does}
 use Rattle.rules.specs.Quotes.{cites-of, says-of, Cites, Appended}
 use Rattle.rules.specs.declared.Effect.{Effect as Done}
 use Rattle.rules.specs.declared.Citing.{Citing}
+use Rattle.rules.proofs.Putting.{reserved, lagged}
 use Rattle.rules.proofs.Giving.{variant-is}
 use Rattle.rules.proofs.Filling.{same-premises}
-use Rattle.propagator.specs.State.{job-at, status-of, still, state-of, Fit, Held, Aimed, Grown, Made}
+use Rattle.propagator.specs.State.{job-at, status-of, still, state-of, Held, Aimed, Grown, Made}
 use Rattle.propagator.specs.Slips.{slip-of, Writes}
 use Rattle.propagator.specs.Attempts.{is-idle, stored, table-after, status-after, stopped-at}
 use Rattle.propagator.specs.declared.Job.{Job as Task}
@@ -73,20 +75,17 @@ lag-subject j (suc (suc (suc r))) e low high s = absurd (omega arith)
 event-subject : (j : Job) (r e : ℕ) → 3 ≤ r → r ≤ 14 → e < subjects (rule r) j → e < j .events
 event-subject j r e low high s = rw (← variant-is r low high) at s
 
-module _ {k : Task} {lags b buffer : List ℤ} {p : Progress} {r e y : ℕ} (fit : Fit (job-at k lags)) (held : Held (k .events) b buffer p) (aimed : Aimed (job-at k lags) r e y) where
+module _ {k : Task} {lags b buffer : List ℤ} {p : Progress} {r e y : ℕ} (sane : Sane (job-at k lags)) (held : Held (k .events) b buffer p) (aimed : Aimed (job-at k lags) r e y) where
   -- The rule is put as the rules take it.
   pub puts : Put lags (k .events) (reservoir-of (k .reservoir)) (board b) r e y
   puts =
       let j = job-at k lags in
-      let sane = fit .sane in
       record {
         first = aimed .first;
         last = aimed .last;
         windows = held .ranged;
-        limits = record { min-range = sane .min-range; max-range = sane .max-range; initial-range = sane .initial-range };
-        lag = λ h.
-            let g = lag-subject j r e (aimed .first) h (aimed .subject) in
-            record { there = g; a-low = fit .a-low e g; b-low = fit .b-low e g; a-high = sane .real-a e g; b-high = sane .real-b e g; gap = sane .gap-range e g };
+        limits = reserved sane;
+        lag = λ h. lagged sane e (lag-subject j r e (aimed .first) h (aimed .subject));
         event = λ h. event-subject j r e h (aimed .last) (aimed .subject);
         target = aimed .target;
       }
@@ -98,8 +97,8 @@ module _ {k : Task} {lags b buffer : List ℤ} {p : Progress} {r e y : ℕ} (fit
       ℕ-le n = native.Mathlib.Decide.decLe n 2
 
       go : Dec (r ≤ 2) → e ≤ 256
-      go (yes h) = let g = lag-subject (job-at k lags) r e (aimed .first) h (aimed .subject) in omega (arith, fit .sane .few-lags)
-      go (no h) = let g = event-subject (job-at k lags) r e (omega arith) (aimed .last) (aimed .subject) in omega (arith, fit .sane .few-events)
+      go (yes h) = let g = lag-subject (job-at k lags) r e (aimed .first) h (aimed .subject) in omega (arith, sane .few-lags)
+      go (no h) = let g = event-subject (job-at k lags) r e (omega arith) (aimed .last) (aimed .subject) in omega (arith, sane .few-events)
 
 -- ---- the model's attempt by its parts
 
@@ -199,12 +198,12 @@ with-slip-is : {table table′ log log′ : List ℤ} {slips last last′ : ℕ}
     → _≡_ {A = State} (record { table = table; log = log; slips = slips; last = last; status = s }) (record { table = table′; log = log′; slips = slips; last = last′; status = s′ })
 with-slip-is p q l t = rw (p, q, l, t)
 
-module _ {k : Task} {lags b buffer : List ℤ} {p : Progress} {r e y : ℕ} {x : Done} {q : Citing} {m : ℕ} (fit : Fit (job-at k lags)) (held : Held (k .events) b buffer p) (aimed : Aimed (job-at k lags) r e y)
+module _ {k : Task} {lags b buffer : List ℤ} {p : Progress} {r e y : ℕ} {x : Done} {q : Citing} {m : ℕ} (sane : Sane (job-at k lags)) (held : Held (k .events) b buffer p) (aimed : Aimed (job-at k lags) r e y)
     (does : Does lags (k .events) (reservoir-of (k .reservoir)) (board b) r e y x) (busy : is-idle (effect-of x) ≡ false)
     (cites : Cites lags (k .events) (reservoir-of (k .reservoir)) (board b) r e y x q)
     (count : m ≡ length (premise-list (k .events) (cites-of q (board b)) (says-of q (board b)))) where
   few-facts : m ≤ 256
-  few-facts = omega (arith, premise-list-length (k .events) (cites-of q (board b)) (says-of q (board b)), fit .sane .few-events)
+  few-facts = omega (arith, premise-list-length (k .events) (cites-of q (board b)) (says-of q (board b)), sane .few-events)
 
   -- The slip that the code writes can be written, and is the model's.
   pub writes : Writes (k .events) (board b) q r e y m
@@ -213,7 +212,7 @@ module _ {k : Task} {lags b buffer : List ℤ} {p : Progress} {r e y : ℕ} {x :
         ranged = held .ranged;
         first = aimed .first;
         last = aimed .last;
-        subject = small-subject fit held aimed;
+        subject = small-subject sane held aimed;
         target = omega (arith, aimed .target, held .ranged .few);
         few = few-facts;
         count = count;
@@ -275,7 +274,7 @@ module _ {k : Task} {lags b buffer : List ℤ} {p : Progress} {r e y : ℕ} {x :
 made-none : {n : ℕ} {f : State → State} {b buffer : List ℤ} {p : Progress} → f (state-of n b buffer p) ≡ state-of n b buffer p → Held n b buffer p → Made n f b buffer p b buffer p
 made-none e h = record { is = sym e; grown = grown-none h }
 
-module _ {k : Task} {lags b buffer : List ℤ} {p : Progress} {r e y : ℕ} (fit : Fit (job-at k lags)) (held : Held (k .events) b buffer p) (aimed : Aimed (job-at k lags) r e y) where
+module _ {k : Task} {lags b buffer : List ℤ} {p : Progress} {r e y : ℕ} (sane : Sane (job-at k lags)) (held : Held (k .events) b buffer p) (aimed : Aimed (job-at k lags) r e y) where
   -- The call has ended.
   pub attempt-off : {t : Bool} → t ≡ still (status-of (p .status)) → not t ≡ true → Made (k .events) (attempt (length buffer) r (job-at k lags) e y) b buffer p b buffer p
   attempt-off {t} h f = made-none (attempt-tried (length buffer) r (job-at k lags) e y (state-of (k .events) b buffer p) ∙ tried-off (status-of (p .status)) _ (state-of (k .events) b buffer p) (sym h ∙ not-true t f)) held
@@ -286,7 +285,7 @@ module _ {k : Task} {lags b buffer : List ℤ} {p : Progress} {r e y : ℕ} (fit
         let j = job-at k lags in
         let n = k .events in
         let on = still-running (status-of (p .status)) (sym h ∙ not-false t f) in
-        let same = outcome-agree j (windows (table-of n b)) (board b) (agree n b) (fit .sane) (rule r) e y (aimed .subject) (aimed .target) ∙ sym (does .is (k .horizon .0)) in
+        let same = outcome-agree j (windows (table-of n b)) (board b) (agree n b) sane (rule r) e y (aimed .subject) (aimed .target) ∙ sym (does .is (k .horizon .0)) in
         attempt-tried (length buffer) r j e y (state-of n b buffer p) ∙ rw (on, same)
 
     -- It does nothing.

@@ -3,15 +3,13 @@ use mathlib.Core.Path.{_≡_}
 use mathlib.Core.Bool.{Bool, true, false}
 use mathlib.Core.List.{List}
 use Prim.Native.Nat.{ℕ, _+_, _*_, _≤_, _<_}
-use lib.IntN.{ℤ, pos}
+use lib.IntN.{ℤ}
 use lib.ListN.{length, take, drop}
-use lib.Signed.{_≤ℤ_}
-use Rattle.model.specs.Job.{Job, lags, lag-word, lag-a, lag-b}
+use Rattle.model.specs.Job.{Job, lags, lag-a, lag-b}
 use Rattle.model.specs.Rules.{rule}
 use Rattle.model.specs.Rounds as model
 use Rattle.model.specs.Rounds.{State, running, ended, conflict, stopped, attempt}
 use Rattle.model.specs.Reader.{subjects}
-use Rattle.model.proofs.Standing.{Sane}
 use Rattle.tables.specs.Board.{Whole, board, table-of}
 use Rattle.rules.specs.Values.{reservoir-of, job-of, Ranged}
 use Rattle.propagator.specs.declared.Job.{Job as Task}
@@ -43,12 +41,6 @@ state-of n b buffer p =
       last = p .last;
       status = status-of (p .status);
     }
-
--- A job that questions 1 to 10 let pass.
-pub record Fit (j : Job) : Type 0 where
-  pub sane : Sane j
-  pub a-low : (g : ℕ) → g < lags j → pos 0 ≤ℤ lag-word j g 0
-  pub b-low : (g : ℕ) → g < lags j → pos 0 ≤ℤ lag-word j g 1
 
 -- What holds of a call's board, buffer and counts between any two attempts: the ends are in range, and a trailer fits after the list.
 pub record Held (n : ℕ) (b buffer : List ℤ) (p : Progress) : Type 0 where

@@ -23,8 +23,9 @@ ghost use Rattle.model.specs.Job.{word};
 ghost use Rattle.model.specs.Rules.{rule, own-end};
 ghost use Rattle.model.specs.Rounds.{acted, attempt};
 ghost use Rattle.tables.specs.Board.{board};
+ghost use Rattle.model.proofs.Standing.{Sane};
 ghost use Rattle.rules.specs.Values.{reservoir-of, effect-of, suits, is-time, Does};
-ghost use Rattle.propagator.specs.State.{status-of, still, job-at, Fit, Held, Aimed, Made};
+ghost use Rattle.propagator.specs.State.{status-of, still, job-at, Held, Aimed, Made};
 ghost use Rattle.propagator.specs.Attempts.{is-idle, stored, status-after, stopped-at};
 
 // ---- what is asked of a state and an effect
@@ -129,7 +130,7 @@ fn act(
     p: Progress,
 ) -> Progress
     requires { ⌜
-        Fit (job-at k (now lags))
+        Sane (job-at k (now lags))
         × Held (k .events) (now b) (now buffer) p
         × Aimed (job-at k (now lags)) r e y
         × Does (now lags) (k .events) (reservoir-of (k .reservoir)) (board (now b)) r e y x
@@ -168,7 +169,7 @@ pub fn attempt(
     buffer: &mut [i32],
     p: Progress,
 ) -> Progress
-    requires { ⌜ Fit (job-at k (now lags)) × Held (k .events) (now b) (now buffer) p × Aimed (job-at k (now lags)) r e y ⌝ }
+    requires { ⌜ Sane (job-at k (now lags)) × Held (k .events) (now b) (now buffer) p × Aimed (job-at k (now lags)) r e y ⌝ }
     ensures { λ q. ⌜
         Made (k .events) (attempt (length (now (buffer .entry))) r (job-at k (now (lags .entry))) e y)
         (now (b .entry)) (now (buffer .entry)) p (now (b .exit)) (now (buffer .exit)) q

@@ -18,8 +18,9 @@ ghost use lib.ListN.{length};
 ghost use Rattle.model.specs.Job.{windows};
 ghost use Rattle.model.specs.Rounds.{run, start};
 ghost use Rattle.model.specs.Planner.{done, planned, plan};
+ghost use Rattle.model.proofs.Standing.{Sane};
 ghost use Rattle.rules.specs.Values.{Ranged};
-ghost use Rattle.propagator.specs.State.{job-at, Fit};
+ghost use Rattle.propagator.specs.State.{job-at};
 ghost use Rattle.propagator.specs.Runs.{verdict-of};
 ghost use Rattle.propagator.specs.Plans.{reply-of, task-of, Outcomes};
 
@@ -55,7 +56,7 @@ pub fn task(h: i32, low: i32, high: i32, q: i32, n: usize) -> Job
 // The run of a job that passed its questions, with both lent tables written.
 pub fn planned(k: Job, table: &mut [i32], lags: &[i32], buffer: &mut [i32]) -> Answer
     requires { ⌜
-        Fit (job-at k (now lags))
+        Sane (job-at k (now lags))
         × (length (now table) ≡ 4 * k .events)
         × Ranged (k .events) (windows (now table))
         × (3 ≤ length (now buffer))

@@ -7,7 +7,8 @@ use crate::Verdict;
 use crate::attempts::is_running;
 use crate::sweeps::round;
 ghost use mathlib.Core.Path.{_≡_};
-ghost use Rattle.propagator.specs.State.{job-at, Fit, Held};
+ghost use Rattle.model.proofs.Standing.{Sane};
+ghost use Rattle.propagator.specs.State.{job-at, Held};
 ghost use Rattle.propagator.specs.Runs.{fresh, Tested, Ran};
 
 // No slip yet.
@@ -36,7 +37,7 @@ fn verdict(p: Progress) -> Verdict
 
 // Rounds from the start until one writes no slip, or a conflict or the room ends the call.
 pub fn run(b: &mut [i32; 256], lags: &[i32], k: Job, buffer: &mut [i32]) -> Ended
-    requires { ⌜ Fit (job-at k (now lags)) × Held (k .events) (now b) (now buffer) fresh ⌝ }
+    requires { ⌜ Sane (job-at k (now lags)) × Held (k .events) (now b) (now buffer) fresh ⌝ }
     ensures { λ q. ⌜ Ran (k .events) (job-at k (now (lags .entry))) (now (b .entry)) (now (buffer .entry)) (now (b .exit)) (now (buffer .exit)) q ⌝ }
 {
     let mut p = start();

@@ -6,7 +6,8 @@ use rules::lags::lag_event;
 ghost use Prim.Native.Nat.{_/_, _<_, _≤_};
 ghost use lib.ListN.{length};
 ghost use Rattle.model.specs.Rounds.{lags-from, targets-from, three-rules, event-rules, events-from, round};
-ghost use Rattle.propagator.specs.State.{job-at, Fit, Held, Made, lag-rules};
+ghost use Rattle.model.proofs.Standing.{Sane};
+ghost use Rattle.propagator.specs.State.{job-at, Held, Made, lag-rules};
 
 // Rule r at e with every target in event order.
 pub fn targets_from(
@@ -18,7 +19,7 @@ pub fn targets_from(
     buffer: &mut [i32],
     p: Progress,
 ) -> Progress
-    requires { ⌜ Fit (job-at k (now lags)) × Held (k .events) (now b) (now buffer) p × (3 ≤ r) × (r ≤ 14) × (e < k .events) ⌝ }
+    requires { ⌜ Sane (job-at k (now lags)) × Held (k .events) (now b) (now buffer) p × (3 ≤ r) × (r ≤ 14) × (e < k .events) ⌝ }
     ensures { λ q. ⌜
         Made (k .events) (targets-from (length (now (buffer .entry))) (job-at k (now (lags .entry))) r e 0 (k .events))
         (now (b .entry)) (now (buffer .entry)) p (now (b .exit)) (now (buffer .exit)) q
@@ -43,7 +44,7 @@ pub fn lag_rules(
     buffer: &mut [i32],
     p: Progress,
 ) -> Progress
-    requires { ⌜ Fit (job-at k (now lags)) × Held (k .events) (now b) (now buffer) p × (g < length (now lags) / 3) ⌝ }
+    requires { ⌜ Sane (job-at k (now lags)) × Held (k .events) (now b) (now buffer) p × (g < length (now lags) / 3) ⌝ }
     ensures { λ q. ⌜
         Made (k .events) (lag-rules (length (now (buffer .entry))) (job-at k (now (lags .entry))) g)
         (now (b .entry)) (now (buffer .entry)) p (now (b .exit)) (now (buffer .exit)) q
@@ -63,7 +64,7 @@ pub fn lags_from(
     buffer: &mut [i32],
     p: Progress,
 ) -> Progress
-    requires { ⌜ Fit (job-at k (now lags)) × Held (k .events) (now b) (now buffer) p ⌝ }
+    requires { ⌜ Sane (job-at k (now lags)) × Held (k .events) (now b) (now buffer) p ⌝ }
     ensures { λ q. ⌜
         Made (k .events) (lags-from (length (now (buffer .entry))) (job-at k (now (lags .entry))) 0 (length (now (lags .entry)) / 3))
         (now (b .entry)) (now (buffer .entry)) p (now (b .exit)) (now (buffer .exit)) q
@@ -89,7 +90,7 @@ pub fn three_rules(
     buffer: &mut [i32],
     p: Progress,
 ) -> Progress
-    requires { ⌜ Fit (job-at k (now lags)) × Held (k .events) (now b) (now buffer) p × (3 ≤ r) × (r ≤ 12) × (e < k .events) ⌝ }
+    requires { ⌜ Sane (job-at k (now lags)) × Held (k .events) (now b) (now buffer) p × (3 ≤ r) × (r ≤ 12) × (e < k .events) ⌝ }
     ensures { λ q. ⌜
         Made (k .events) (three-rules (length (now (buffer .entry))) (job-at k (now (lags .entry))) r e)
         (now (b .entry)) (now (buffer .entry)) p (now (b .exit)) (now (buffer .exit)) q
@@ -109,7 +110,7 @@ pub fn event_rules(
     buffer: &mut [i32],
     p: Progress,
 ) -> Progress
-    requires { ⌜ Fit (job-at k (now lags)) × Held (k .events) (now b) (now buffer) p × (e < k .events) ⌝ }
+    requires { ⌜ Sane (job-at k (now lags)) × Held (k .events) (now b) (now buffer) p × (e < k .events) ⌝ }
     ensures { λ q. ⌜
         Made (k .events) (event-rules (length (now (buffer .entry))) (job-at k (now (lags .entry))) e)
         (now (b .entry)) (now (buffer .entry)) p (now (b .exit)) (now (buffer .exit)) q
@@ -129,7 +130,7 @@ pub fn events_from(
     buffer: &mut [i32],
     p: Progress,
 ) -> Progress
-    requires { ⌜ Fit (job-at k (now lags)) × Held (k .events) (now b) (now buffer) p ⌝ }
+    requires { ⌜ Sane (job-at k (now lags)) × Held (k .events) (now b) (now buffer) p ⌝ }
     ensures { λ q. ⌜
         Made (k .events) (events-from (length (now (buffer .entry))) (job-at k (now (lags .entry))) 0 (k .events))
         (now (b .entry)) (now (buffer .entry)) p (now (b .exit)) (now (buffer .exit)) q
@@ -147,7 +148,7 @@ pub fn events_from(
 
 // A round: lags in table order, then events in order.
 pub fn round(b: &mut [i32; 256], lags: &[i32], k: Job, buffer: &mut [i32], p: Progress) -> Progress
-    requires { ⌜ Fit (job-at k (now lags)) × Held (k .events) (now b) (now buffer) p ⌝ }
+    requires { ⌜ Sane (job-at k (now lags)) × Held (k .events) (now b) (now buffer) p ⌝ }
     ensures { λ q. ⌜
         Made (k .events) (round (length (now (buffer .entry))) (job-at k (now (lags .entry))))
         (now (b .entry)) (now (buffer .entry)) p (now (b .exit)) (now (buffer .exit)) q

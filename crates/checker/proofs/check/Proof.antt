@@ -31,9 +31,10 @@ returns : tie.Need-returns
 returns c =
     let s = c .before .before .before .before .before .before in
     let a = s .args in
-    check-unmarked (a .h) (a .low) (a .high) (a .q) (a .table .now) (a .lags .now) (a .list .now)
+    let o = check-unmarked (a .h) (a .low) (a .high) (a .q) (a .table .now) (a .lags .now) (a .list .now)
     (rw (toZ-ofZ (s .fits .h), toZ-ofZ (s .fits .low), toZ-ofZ (s .fits .high), toZ-ofZ (s .fits .q)) at (c .before .before .before .before .questions .ensures))
-    (c .before .before .enum-told .given .1) (c .before .is-marked .ensures) (c .if1 .taken)
+    (c .before .before .enum-told .given .1) (c .before .is-marked .ensures) (c .if1 .taken) in
+    (o .answer, o .windows)
 
 cage-requires : tie.Need-cage-requires
 cage-requires c κs = search needs
@@ -56,9 +57,10 @@ returns-2 : tie.Need-returns-2
 returns-2 c =
     let s = c .before .before .before .before .before in
     let a = s .args in
-    check-refused (a .h) (a .low) (a .high) (a .q) (a .table .now) (a .lags .now) (a .list .now)
+    let o = check-refused (a .h) (a .low) (a .high) (a .q) (a .table .now) (a .lags .now) (a .list .now)
     (rw (toZ-ofZ (s .fits .h), toZ-ofZ (s .fits .low), toZ-ofZ (s .fits .high), toZ-ofZ (s .fits .q)) at (c .before .before .before .questions .ensures))
-    (c .before .asked .given .0 .0) (c .before .asked .given .1)
+    (c .before .asked .given .0 .0) (c .before .asked .given .1) in
+    (o .answer, o .windows)
 
 same-length-3 : tie.Need-same-length-3
 same-length-3 c = search needs
@@ -67,13 +69,14 @@ returns-3 : tie.Need-returns-3
 returns-3 c =
     let s = c .before .before .before .before .before .before .before .before .before .before in
     let a = s .args in
-    check-judged (a .h) (a .low) (a .high) (a .q) (a .table .now) (a .lags .now) (a .list .now)
+    let o = check-judged (a .h) (a .low) (a .high) (a .q) (a .table .now) (a .lags .now) (a .list .now)
     (rw (toZ-ofZ (s .fits .h), toZ-ofZ (s .fits .low), toZ-ofZ (s .fits .high), toZ-ofZ (s .fits .q)) at
     (c .before .before .before .before .before .before .before .before .questions .ensures))
     (c .before .before .before .before .before .before .enum-told .given .1) (c .before .before .before .before .before .is-marked .ensures)
     (c .before .before .before .before .if1 .left) (toZ-ofZ (s .fits .h))
     (rw (toZ-ofZ (s .fits .low), toZ-ofZ (s .fits .high), toZ-ofZ (s .fits .q)) at (ap reservoir-of (c .before .before .before .cage .ensures)))
-    (c .before .judge .ensures)
+    (c .before .judge .ensures) in
+    (o .answer, o .windows)
 
 pub check-spec : {M : Type 1} → statement M
 check-spec =

@@ -18,7 +18,7 @@ judged-requires c κs = search needs
 tell-requires : tie.Need-tell-requires
 tell-requires c κs =
     let s = c .before .before .before .before .before in
-    let a = c .before .before .before .check .ensures .answer in
+    let a = c .before .before .before .check .ensures .0 in
     rw (c .before .judged .ensures, a, toZ-ofZ (s .fits .h), toZ-ofZ (s .fits .low), toZ-ofZ (s .fits .high), toZ-ofZ (s .fits .q))
     (check-small (s .args .h) (s .args .low) (s .args .high) (s .args .q) (s .args .table .now) (s .args .lags .now) (s .args .list .now))
 
@@ -33,12 +33,12 @@ returns c =
     let s = c .before .before .before .before .before .before .before in
     let p = c .before .before .before .before .before .check .ensures in
     let a = c .before .before .before .judged .ensures
-    ∙ ap numbers-of (rw (toZ-ofZ (s .fits .h), toZ-ofZ (s .fits .low), toZ-ofZ (s .fits .high), toZ-ofZ (s .fits .q)) at (p .answer)) in
+    ∙ ap numbers-of (rw (toZ-ofZ (s .fits .h), toZ-ofZ (s .fits .low), toZ-ofZ (s .fits .high), toZ-ofZ (s .fits .q)) at (p .0)) in
     let small = check-small (s .args .h) (s .args .low) (s .args .high) (s .args .q) (s .args .table .now) (s .args .lags .now) (s .args .list .now) in (
       returned _ (rw a at (c .before .tell .ensures .0)) (small .number),
       (
         rw a at (c .before .tell .ensures .1),
-        rw (toZ-ofZ (s .fits .h), toZ-ofZ (s .fits .low), toZ-ofZ (s .fits .high), toZ-ofZ (s .fits .q)) at (p .windows),
+        rw (toZ-ofZ (s .fits .h), toZ-ofZ (s .fits .low), toZ-ofZ (s .fits .high), toZ-ofZ (s .fits .q)) at (p .1),
       ),
     )
 

@@ -140,7 +140,7 @@ returns-2 c =
     (c .before .before .before .before .before .before .before .before .before .before .before .before .before .keep .last .1 .0)
     (c .before .before .before .before .before .before .before .before .before .before .before .before .before .keep .ensures)
     (c .before .check .result)
-    (rw (toZ-ofZ (s .fits .h), toZ-ofZ (s .fits .low), toZ-ofZ (s .fits .high), toZ-ofZ (s .fits .q)) at (c .before .check .ensures .answer))
+    (rw (toZ-ofZ (s .fits .h), toZ-ofZ (s .fits .low), toZ-ofZ (s .fits .high), toZ-ofZ (s .fits .q)) at (c .before .check .ensures .0))
 
 pub plan-and-read-spec : {M : Type 1} → statement M
 plan-and-read-spec =

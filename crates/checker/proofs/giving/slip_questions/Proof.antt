@@ -1,6 +1,6 @@
 -- `checker::giving::slip_questions` meets its contract.
 -- Assumes nothing.
-use Rattle.checker.proofs.Passing.{no-names, not-facts, not-given, then-does, header-signs, put-slip, narrowed-range}
+use Rattle.checker.proofs.Passing.{lags-of, no-names, not-facts, not-given, then-does, header-signs, put-slip, narrowed-range}
 use Rattle.checker.specs.Slip.{explanation-of}
 use Rattle.rules.specs.Values.{job-of, reservoir-of}
 use Rattle.tables.specs.Board.{board}
@@ -11,12 +11,11 @@ use lib.IntN.{pos}
 use borrow.Author.Tests.{not-false}
 use native.Mathlib.Omega.{arith}
 use mathlib.Core.Path.{sym, _∙_}
-use borrow.Author.Needs.{needs}
 use Rattle.checker.proofs.giving.slip_questions.Statement.{statement}
 use Rattle.checker.proofs.giving.slip_questions.Tie as tie
 
 names-requires : tie.Need-names-requires
-names-requires c κs = search needs
+names-requires c κs = (lags-of (c .pre .0 .sane), c .pre .1)
 
 returns : tie.Need-returns
 returns c =
@@ -64,7 +63,7 @@ facts-give-requires c κs =
     let a = s .args in
     let q = s .pre .0 in (
       put-slip (a .lags .now) (a .list .now) (a .n) (pos 0) (reservoir-of (a .c))
-          (narrowed (board (a .wide .now)) (premises-at (a .list .now) (a .s .facts) (a .s .count))) (a .s) (q .lags-right) (s .pre .1) (q .limits)
+          (narrowed (board (a .wide .now)) (premises-at (a .list .now) (a .s .facts) (a .s .count))) (a .s) (lags-of (q .sane)) (s .pre .1) (q .limits)
           (narrowed-range (a .n) (board (a .wide .now)) (board (a .b .now)) (premises-at (a .list .now) (a .s .facts) (a .s .count)) (q .wide-range)
           (q .range) (q .inside)
           (true-is (sym (c .before .before .before .before .before .facts-true .ensures) ∙ not-false _ (c .before .before .before .before .if2 .left))))
