@@ -8,13 +8,12 @@
 -- Assumes nothing.
 use mathlib.Core.Path.{_≡_, refl, sym, ap, subst, _∙_}
 use mathlib.Core.Bool.{Bool, true, false, not, cond}
-use Prim.Native.Nat.{ℕ, zero, suc, _+_, _*_, _-_, _<_, _≤_, _/_, _^_, max}
+use Prim.Native.Nat.{ℕ, zero, suc, _+_, _-_, _<_, _≤_, _^_, max}
 use native.Mathlib.Omega.{arith}
 use borrow.Author.Tests.{eqb-true, eqb-false, eq-eqb, ne-eqb}
 use lib.Dec.{T, eqb, ltb, leb, ltb→lt, nltb→le, leb→le, nleb→lt, le→leb, lt→ltb}
-use lib.IntN.{ℤ, pos, negsuc, _+ℤ_, _-ℤ_, _*ℤ_, negℤ, subℕ, natAbs}
-use lib.Signed.{leZ, ltZ, mag, nonNeg, quotZ, remZ, mag-rem}
-use native.Mathlib.Nat.{div-le-self, lt-of-le-of-lt}
+use lib.IntN.{ℤ, pos, negsuc, _+ℤ_, _-ℤ_, negℤ, subℕ, natAbs}
+use lib.Signed.{leZ, ltZ, mag, nonNeg}
 use mir.Val.{Fits, SFits, toZ, ofZ, hbits, bits}
 use mir.Syntax.{Width, w32, w64}
 use mir.Facts.{toZ-ofZ}
@@ -45,11 +44,6 @@ neg-law (negsuc n) = omega arith
 
 pub sub-law : (a b : ℤ) → Dif (a -ℤ b) (up a + dn b) (dn a + up b)
 sub-law a b = omega (arith, add-law a (negℤ b), neg-law b)
-
--- by a natural: linear where k is a numeral
-pub mul-law : (a : ℤ) (k : ℕ) → Dif (a *ℤ pos k) (up a * k) (dn a * k)
-mul-law (pos a) k = omega arith
-mul-law (negsuc a) k = omega (arith, neg-law (pos (suc a * k)))
 
 -- ---- the tests, as `omega` rules
 pub leZ→ : (a b : ℤ) → T (leZ a b) → up a + dn b ≤ up b + dn a
@@ -183,19 +177,12 @@ pub →fits-natAbs : (w : Width) (z : ℤ) → up z + dn z < 2 ^ bits w → Fits
 pub sfits32 : (z : ℤ) → mag z < 2 ^ 31 → SFits w32 z
 sfits32 z h = record { sfits = h }
 
-pub sfits64 : (z : ℤ) → mag z < 2 ^ 63 → SFits w64 z
-sfits64 z h = record { sfits = h }
-
 -- a test on two signed locals, which reads their bits, is the test on the numbers
 pub lt-back : {w : Width} {a b : ℤ} {t : Bool} → SFits w a → SFits w b → ltZ (toZ w (ofZ w a)) (toZ w (ofZ w b)) ≡ t → ltZ a b ≡ t
 lt-back f g e = rw (toZ-ofZ f, toZ-ofZ g) at e
 
 pub le-back : {w : Width} {a b : ℤ} {t : Bool} → SFits w a → SFits w b → leZ (toZ w (ofZ w a)) (toZ w (ofZ w b)) ≡ t → leZ a b ≡ t
 le-back f g e = rw (toZ-ofZ f, toZ-ofZ g) at e
-
--- the same at 32 bits from the bare bounds
-pub lt32 : (a b : ℤ) {t : Bool} → mag a < 2 ^ 31 → mag b < 2 ^ 31 → ltZ (toZ w32 (ofZ w32 a)) (toZ w32 (ofZ w32 b)) ≡ t → ltZ a b ≡ t
-lt32 a b f g e = lt-back (sfits32 a f) (sfits32 b g) e
 
 pub le32 : (a b : ℤ) {t : Bool} → mag a < 2 ^ 31 → mag b < 2 ^ 31 → leZ (toZ w32 (ofZ w32 a)) (toZ w32 (ofZ w32 b)) ≡ t → leZ a b ≡ t
 le32 a b f g e = le-back (sfits32 a f) (sfits32 b g) e
@@ -215,20 +202,6 @@ pub if-no {ℓ} : {A : Type ℓ} (t : Bool) (x y : A) → t ≡ false → y ≡ 
 if-no t x y e = rw e
 
 -- ---- division by a positive number: what `/` and `%` ask
-mag-neg : (r : ℕ) {a : ℕ} → r ≤ suc a → mag (negℤ (pos r)) ≤ a
-mag-neg zero h = omega arith
-mag-neg (suc r) h = omega arith
-
-mag-quot : (z : ℤ) (k : ℕ) → mag (quotZ z (pos k)) ≤ mag z
-mag-quot (pos a) k = div-le-self a k
-mag-quot (negsuc a) k = mag-neg (suc a / k) (div-le-self (suc a) k)
-
-pub quot-fits : {w : Width} {z : ℤ} (k : ℕ) → SFits w z → SFits w (quotZ z (pos k))
-quot-fits {z = z} k f = record { sfits = lt-of-le-of-lt (mag-quot z k) (f .sfits) }
-
-pub rem-fits : {w : Width} {z : ℤ} (d : ℤ) → SFits w z → SFits w (remZ z d)
-rem-fits {z = z} d f = record { sfits = lt-of-le-of-lt (mag-rem z d) (f .sfits) }
-
 -- ---- the same at a sum or a difference, so that its law need not be listed. A rule is tried in the order of the set, and the first that fits is taken: these stand first
 pub eqℤ-add→ : (z a b : ℤ) → z ≡ a +ℤ b → up z + (dn a + dn b) ≡ up a + up b + dn z
 eqℤ-add→ z a b e = omega (arith, eqℤ→ z (a +ℤ b) e, add-law a b)
@@ -255,12 +228,6 @@ pub →leZ+add : (z a b : ℤ) → up z + (dn a + dn b) ≤ up a + up b + dn z �
 →leZ+add z a b h = →leZ z (a +ℤ b) (omega (arith, add-law a b))
 
 -- ---- `==` on signed locals, which compares their bits
-pub eq-back : {w : Width} {a b : ℤ} → SFits w a → SFits w b → ofZ w a ≡ ofZ w b → a ≡ b
-eq-back {w} f g e = sym (toZ-ofZ f) ∙ ap (toZ w) e ∙ toZ-ofZ g
-
-pub ne-back : (w : Width) (a b : ℤ) → (ofZ w a ≡ ofZ w b → ⊥) → a ≡ b → ⊥
-ne-back w a b n e = n (ap (ofZ w) e)
-
 eqb-iff : (a b m n : ℕ) → (a ≡ b → m ≡ n) → (m ≡ n → a ≡ b) → eqb a b ≡ eqb m n
 eqb-iff a b m n f g = by-case (eqb m n) (eqb-true m n) (eqb-false m n)
   where

@@ -7,21 +7,19 @@ use Prim.Native.Nat.{ℕ, zero, suc, _+_, _*_, _≤_, _<_}
 use lib.Dec.{T, eqb, eqb→eq}
 use lib.IntN.{ℤ}
 use lib.ListN.{length, drop}
-use lib.Signed.{leZ, _≤ℤ_}
-use Rattle.integers.proofs.Linear.{ints}
 use Rattle.integers.proofs.Tests.{true-is, and-out}
-use Rattle.model.specs.Job.{End, t-min, t-max, h-min, h-max, opposite, meets, slot, Windows, windows, widest, Job, Schedule, value, Inside, Legal}
+use Rattle.model.specs.Job.{End, opposite, meets, slot, Windows, windows, Job, Schedule, value, Inside, Legal}
 use Rattle.model.specs.Rules.{own-end, bound, idle, narrows, fails, effect}
-use Rattle.model.specs.Slips.{Premise, Explanation, slip-words, slip-length}
+use Rattle.model.specs.Slips.{Explanation, slip-words, slip-length}
 use Rattle.model.specs.Questions.{Check, pass, refuse, ask}
 use Rattle.model.specs.Reader.{at, premise-count, whole, slip-at, reading, rule-of, target-of, names, same-end, all-true, narrowed, is-conflict, gives, is-narrowing, fits-there, slip-questions, applied, Read, read-from}
 use Rattle.model.proofs.Standing.{Sane, Standing}
-use Rattle.model.proofs.Order.{same-end-is, all-true-inside, narrowed-in, inside-narrowed}
+use Rattle.model.proofs.Order.{same-end-is, all-true-inside}
 use Rattle.model.proofs.Table.{store, slot-inside, windows-set, standing-narrow}
 use Rattle.model.proofs.Levels.{Signed}
 use Rattle.model.proofs.Sound.{Named, named, Concludes, stands-alone}
 use Rattle.model.proofs.Questions.{refusal, then-out, ask-out}
-use Rattle.model.proofs.Written.{replayed, conflicting-after, Conflict-last}
+use Rattle.model.proofs.Written.{replayed, conflicting-after}
 use Rattle.model.proofs.Words.{slip-words-length, log-words, last-begins}
 use Rattle.model.proofs.Refusals.{applied-length}
 use Rattle.model.proofs.Reading.{premises-at-length, slip-there}
@@ -166,25 +164,6 @@ module _ (j : Job) (sane : Sane j) (wide : Windows) (signs : Signed (j .events) 
       (b .0, (a .1, b .1))
 
 -- ---- standing windows
-
--- A conflict has no slip after it.
-pub passed-last : (j : Job) (wide : Windows) (xs : List Explanation) (table : List ℤ) → AllPassed j wide table xs → Conflict-last xs
-passed-last j wide [] table q = tt
-passed-last j wide (x ∷ xs) table q = (q .0 .last-one, passed-last j wide xs (applied table x) (q .1))
-
--- The widest windows narrowed by facts that are true of standing windows stand too: so they keep their ranges, and none is empty.
-pub narrowed-standing : (j : Job) (sent W : Windows) → Standing j sent W → (fs : List Premise) → T (all-true W fs) → Standing j sent (narrowed (widest (j .horizon) sent) fs)
-narrowed-standing j sent W std fs t =
-    let wide = widest (j .horizon) sent in
-    let i = inside-narrowed (std .within) fs t in
-    record {
-      within = narrowed-in (j .events) wide fs;
-      times = λ y l. between (narrowed wide fs y t-min) (W y t-min) (W y t-max) (narrowed wide fs y t-max) (i .inside y l t-min) (std .times y l) (i .inside y l t-max);
-      heights = λ y l. between (narrowed wide fs y h-min) (W y h-min) (W y h-max) (narrowed wide fs y h-max) (i .inside y l h-min) (std .heights y l) (i .inside y l h-max);
-    }
-  where
-    between : (a b c d : ℤ) → T (leZ a b) → b ≤ℤ c → T (leZ c d) → a ≤ℤ d
-    between a b c d s m t = omega ints
 
 narrowing-is : (a b : Bool) (v : ℤ) → T (is-narrowing (cond a (cond b idle (narrows v)) fails)) → cond a (cond b idle (narrows v)) fails ≡ narrows v
 narrowing-is true true v t = absurd t

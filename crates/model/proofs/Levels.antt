@@ -74,11 +74,6 @@ Weaker never sure = ⊥
 Weaker never possible = Unit {0}
 Weaker never never = Unit {0}
 
-pub weaker-refl : (k : Place) → Weaker k k
-weaker-refl sure = tt
-weaker-refl possible = tt
-weaker-refl never = tt
-
 -- Surely less often, possibly more often.
 pub placed-weaker : (q s a b c d : Bool) → (T c → T a) → (T b → T d) → (T a → T d) → Weaker (placed q s a b) (placed q s c d)
 placed-weaker true true a b c d f g h = tt

@@ -148,8 +148,6 @@ pub record Asked (h low high q : ℤ) (table lag-words : List ℤ) (room : ℕ) 
   pub sane : Sane (job h low high q table lag-words)
   pub standing : Standing (job h low high q table lag-words) (windows table) (windows table)
   pub whole-events : length table ≡ 4 * (length table / 4)
-  pub whole-lags : length lag-words ≡ 3 * (length lag-words / 3)
-  pub few-lag-words : length lag-words ≤ 768
   pub room-low : 3 ≤ room
   pub room-high : room ≤ 1000000
 
@@ -308,8 +306,6 @@ module _ (h low high q : ℤ) (table lag-words : List ℤ) (room : ℕ) where
       let a = answers j table room e in
       let t4 = and-out (eqb (length table % 4) 0) (leb (length table) 256) (ask-out 4 (eqb (length table % 4) 0 && leb (length table) 256) (a .q4)) in
       let u4 = eqb→eq (length table % 4) 0 (t4 .0) in
-      let t7 = and-out (eqb (length lag-words % 3) 0) (leb (length lag-words) 768) (ask-out 7 (eqb (length lag-words % 3) 0 && leb (length lag-words) 768) (a .q7)) in
-      let u7 = eqb→eq (length lag-words % 3) 0 (t7 .0) in
       let t11 = and-out (leb 3 room) (leb room 1000000) (ask-out 11 (leb 3 room && leb room 1000000) (a .q11)) in
       record {
         sane = sane-of a;
@@ -319,8 +315,6 @@ module _ (h low high q : ℤ) (table lag-words : List ℤ) (room : ℕ) where
           heights = λ y l. heights-of a y l .0;
         };
         whole-events = omega arith;
-        whole-lags = omega arith;
-        few-lag-words = leb→le (length lag-words) 768 (t7 .1);
         room-low = leb→le 3 room (t11 .0);
         room-high = leb→le room 1000000 (t11 .1);
       }

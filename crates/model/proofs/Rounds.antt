@@ -154,20 +154,6 @@ module _ (room : ℕ) (j : Job) where
       round-keeps room j sane (Onward s) (λ r e y v t o. step-onward r e y s t (attempt room r j e y t) (attempt-step room r j e y t) o) s
       (record { more = omega arith; unmoved = λ p q. refl })
 
-  step-ended : (r e y : ℕ) (s t : State) (v : Verdict) → Step room r j e y s t → s .status ≡ ended v → t ≡ s
-  step-ended r e y s t v same off = refl
-  step-ended r e y s t v (stops on) off = apart on off
-  step-ended r e y s t v (narrowed b on is room-for) off = apart on off
-  step-ended r e y s t v (failing on is room-for) off = apart on off
-
-  -- Once a call has ended, an attempt changes nothing, nor does a round.
-  pub attempt-ended : (r e y : ℕ) (s : State) (v : Verdict) → s .status ≡ ended v → attempt room r j e y s ≡ s
-  attempt-ended r e y s v off = step-ended r e y s (attempt room r j e y s) v (attempt-step room r j e y s) off
-
-  pub round-ended : Sane j → (s : State) (v : Verdict) → s .status ≡ ended v → round room j s ≡ s
-  round-ended sane s v off =
-      round-keeps room j sane (λ t. t ≡ s) (λ r e y _ t q. ap (attempt room r j e y) q ∙ attempt-ended r e y s v off) s refl
-
 -- ---- the run
 
 -- The run from the state s, n rounds begun before, ends as r, by the rules alone: no fuel is spoken of.

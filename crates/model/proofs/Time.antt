@@ -284,9 +284,6 @@ module _ (s : Switch) (n : ℕ) (c : Reservoir) (W : Windows) (e : ℕ) where
       let same : r .0 ≡ v = omega ints in
       r .1 ∙ ap bound same
 
-  pub time-nothing : time-rule s n c W e ≡ nothing → (c .min-level ≤ℤ sure-part s n c W e) ⊎ (most s n c W e <ℤ c .min-level)
-  time-nothing q = subst (Timed s n c W e) q timed
-
   pub nothing-time : (c .min-level ≤ℤ sure-part s n c W e) ⊎ (most s n c W e <ℤ c .min-level) → time-rule s n c W e ≡ nothing
   nothing-time k = go (time-rule s n c W e) timed
     where

@@ -11,12 +11,6 @@ use Rattle.model.specs.Job.{End, t-min, t-max, h-min, h-max, Windows, Re
 abbrev pub Switch : Type 0
 Switch = ℕ → Bool
 
-abbrev pub before : Switch
-before y = true
-
-abbrev pub by : Switch
-by y = false
-
 abbrev pub ahead : Bool → ℤ → ℤ → Bool
 ahead true a b = ltZ a b
 ahead false a b = leZ a b

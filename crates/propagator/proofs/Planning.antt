@@ -49,9 +49,6 @@ held-start {n} {table} {b} buffer l r low high =
 -- ---- what the call leaves
 
 module _ {n : ℕ} {j : Job} {table b buffer b′ buffer′ : List ℤ} {e : Ended} (l : Loaded n table b) (r : Ran n j b buffer b′ buffer′ e) where
-  used-fits : e .progress .used + 3 ≤ length buffer′
-  used-fits = r .grown .held .trailer-fits
-
   log-length : length (take (e .progress .used) buffer′) ≡ e .progress .used
   log-length = length-take-le (e .progress .used) buffer′ (omega arith)
 

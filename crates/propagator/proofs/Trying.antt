@@ -230,9 +230,6 @@ module _ {k : Task} {lags b buffer : List ℤ} {p : Progress} {r e y : ℕ} {x :
   log-size : length (take (p .used) buffer) ≡ p .used
   log-size = length-take-le (p .used) buffer (omega arith)
 
-  abbrev room-test : Bool
-  room-test = fits (length buffer) (take (p .used) buffer) (slip-words (explanation r (job-at k lags) (windows (table-of (k .events) b)) e y (effect-of x)))
-
   act-is : acted (length buffer) r (job-at k lags) e y (effect-of x) (state-of (k .events) b buffer p)
       ≡ recorded (length buffer) (state-of (k .events) b buffer p) (explanation r (job-at k lags) (windows (table-of (k .events) b)) e y (effect-of x)) (table-after (own-end (rule r)) y (effect-of x) (table-of (k .events) b)) (status-after (effect-of x))
   act-is = acted-slip (length buffer) r (job-at k lags) e y (effect-of x) (state-of (k .events) b buffer p) busy

@@ -107,9 +107,6 @@ module _ (h low high q : ℤ) (table lags buffer : List ℤ) (a : Answer) {table
           taken = λ v s m n k. go v s m n (sym e ∙ sym ea ∙ k);
         }
       where
-        list : List ℤ
-        list = take len (plan h low high q table lags buffer .buffer)
-
         go : (v : Verdict) (s m n : ℕ) → done (l .verdict) (l .slips) (l .rounds) len ≡ done v s m n → Taken h low high q table lags table′ buffer′ v n (record { answer = a; verdict = v′ })
         go v s m n k =
             let x : l .verdict ≡ v = cc in

@@ -11,6 +11,7 @@ use Rattle.integers.specs.Range.{Within}
 use Rattle.model.specs.Job.{End, t-min, t-max, h-min, h-max, Windows, Reservoir, Job}
 use Rattle.model.specs.Levels.{Switch, ahead, Place, sure, possible, never, placed, gain, side, side-reservoir}
 use Rattle.model.specs.Rules.{Finding, nothing, clash, bound, given-if, Family, level, time, height, Rule, reservoir, switch, family-rule, family-end, side-finding, rule, finding, own-end, Effect, idle, narrows, fails, effect}
+pub use Rattle.model.proofs.Ranges.{span}
 use Rattle.tables.specs.declared.Reservoir.{Reservoir as Held}
 use Rattle.rules.specs.declared.Place.{Place as Tested}
 use Rattle.rules.specs.declared.Soonest.{Soonest}
@@ -103,13 +104,6 @@ side-rule f m strict n c W e y =
     side-finding m (family-end f) (family-rule f (switch strict) n (side-reservoir m c) (side m W) e y)
 
 -- ---- the numbers in play
-
--- How far from 0 an end is at most: times are in 0..20,000, amounts in −9,999..9,999.
-abbrev pub span : End → ℕ
-span t-min = 20000
-span t-max = 20000
-span h-min = 9999
-span h-max = 9999
 
 -- The windows of n events, at most 64.
 pub record Ranged (n : ℕ) (W : Windows) : Type 0 where

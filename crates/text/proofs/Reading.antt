@@ -57,10 +57,6 @@ then-none : (p : Parsed) → then p (numbers []) ≡ p
 then-none (numbers xs) = ap numbers (append-nil xs)
 then-none ill-formed = refl
 
-then-ill : (p : Parsed) → then p ill-formed ≡ ill-formed
-then-ill (numbers xs) = refl
-then-ill ill-formed = refl
-
 -- A word that is ill-formed, whatever words follow.
 ill-first : (w : List ℕ) (ws : List (List ℕ)) → ((v : List ℕ) → word (w ++ v) ≡ ill-formed) → all-numbers (prefixed w ws) ≡ ill-formed
 unfolding all-numbers
