@@ -2,6 +2,7 @@
 use crate::Word;
 use tables::Height;
 use tables::Time;
+use tables::asked;
 ghost use mathlib.Core.Path.{_≡_};
 ghost use Prim.Native.Nat.{_<_};
 ghost use lib.Dec.{T};
@@ -21,8 +22,7 @@ pub fn word_at(list: &[i32], i: usize) -> Word
 pub fn between(w: Word, low: i32, high: i32) -> bool
     ensures { λ r. ⌜ r ≡ in-range low high (w .0) ⌝ }
 {
-    let x = w.0;
-    low <= x && x <= high
+    asked::between(w.0, low, high)
 }
 
 // The number that a word is, which is not negative.
@@ -48,9 +48,7 @@ pub fn is_event(w: Word, n: usize) -> bool
     requires { ⌜ n < 2147483648 ⌝ }
     ensures { λ r. ⌜ r ≡ is-event n (w .0) ⌝ }
 {
-    let x = w.0;
-    let y = n as i32;
-    0 <= x && x < y
+    asked::is_event(w.0, n as i32)
 }
 
 pub fn at_most(a: Word, b: Word) -> bool

@@ -52,7 +52,7 @@ fn differ(a: i32, b: i32) -> bool
 }
 
 // A word is the number of an event, of n.
-fn is_event(w: i32, n: i32) -> bool
+pub fn is_event(w: i32, n: i32) -> bool
     ensures { λ r. ⌜ r ≡ (leZ (pos 0) w && ltZ w n) ⌝ }
 {
     0 <= w && w < n
