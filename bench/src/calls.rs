@@ -17,86 +17,80 @@ pub const CONFLICT: i32 = 1;
 pub const STOPPED: i32 = 2;
 pub const OPEN: i32 = 3;
 
-// The static library: a table is a pointer and a length.
+/// A call of the static library: a table is a pointer and a length. The third
+/// one, buffer or list, is written by the planner alone.
+type Call<List> = unsafe extern "C" fn(
+    h: i32,
+    low: i32,
+    high: i32,
+    q: i32,
+    table: *mut i32,
+    table_words: usize,
+    lags: *const i32,
+    lag_words: usize,
+    list: List,
+    list_words: usize,
+    answer: *mut i32,
+    answer_words: usize,
+) -> i32;
+
 #[allow(clippy::too_many_arguments)]
+#[rustfmt::skip]
 extern "C" {
     fn orthmuzi_plan(
-        h: i32,
-        low: i32,
-        high: i32,
-        q: i32,
-        table: *mut i32,
-        table_words: usize,
-        lags: *const i32,
-        lag_words: usize,
-        buffer: *mut i32,
-        buffer_words: usize,
-        answer: *mut i32,
-        answer_words: usize,
+        h: i32, low: i32, high: i32, q: i32, table: *mut i32, table_words: usize, lags: *const i32, lag_words: usize,
+        buffer: *mut i32, buffer_words: usize, answer: *mut i32, answer_words: usize,
     ) -> i32;
-
     fn orthmuzi_read(
-        h: i32,
-        low: i32,
-        high: i32,
-        q: i32,
-        table: *mut i32,
-        table_words: usize,
-        lags: *const i32,
-        lag_words: usize,
-        list: *const i32,
-        list_words: usize,
-        answer: *mut i32,
-        answer_words: usize,
+        h: i32, low: i32, high: i32, q: i32, table: *mut i32, table_words: usize, lags: *const i32, lag_words: usize,
+        list: *const i32, list_words: usize, answer: *mut i32, answer_words: usize,
     ) -> i32;
+}
+
+/// The answer of a call whose list is lent for it.
+fn answered<List>(
+    call: Call<List>,
+    job: &RawJob,
+    windows: &mut [i32],
+    list: List,
+    list_words: usize,
+) -> Answer {
+    let s = job.settings;
+    let mut words = [0; 5];
+    // SAFETY: each pointer and length is that of a slice lent for the call.
+    let number = unsafe {
+        call(
+            s.horizon,
+            s.lower,
+            s.upper,
+            s.opening,
+            windows.as_mut_ptr(),
+            windows.len(),
+            job.lags.as_ptr(),
+            job.lags.len(),
+            list,
+            list_words,
+            words.as_mut_ptr(),
+            words.len(),
+        )
+    };
+    Answer { number, words }
 }
 
 /// The proved planner.
 pub fn proved_plan(job: &RawJob, windows: &mut [i32], buffer: &mut [i32]) -> Answer {
-    let s = job.settings;
-    let mut words = [0; 5];
-    // SAFETY: each pointer and length is that of a slice lent for the call.
-    let number = unsafe {
-        orthmuzi_plan(
-            s.horizon,
-            s.lower,
-            s.upper,
-            s.opening,
-            windows.as_mut_ptr(),
-            windows.len(),
-            job.lags.as_ptr(),
-            job.lags.len(),
-            buffer.as_mut_ptr(),
-            buffer.len(),
-            words.as_mut_ptr(),
-            words.len(),
-        )
-    };
-    Answer { number, words }
+    answered(
+        orthmuzi_plan,
+        job,
+        windows,
+        buffer.as_mut_ptr(),
+        buffer.len(),
+    )
 }
 
 /// The proved reader.
 pub fn proved_read(job: &RawJob, windows: &mut [i32], list: &[i32]) -> Answer {
-    let s = job.settings;
-    let mut words = [0; 5];
-    // SAFETY: each pointer and length is that of a slice lent for the call.
-    let number = unsafe {
-        orthmuzi_read(
-            s.horizon,
-            s.lower,
-            s.upper,
-            s.opening,
-            windows.as_mut_ptr(),
-            windows.len(),
-            job.lags.as_ptr(),
-            job.lags.len(),
-            list.as_ptr(),
-            list.len(),
-            words.as_mut_ptr(),
-            words.len(),
-        )
-    };
-    Answer { number, words }
+    answered(orthmuzi_read, job, windows, list.as_ptr(), list.len())
 }
 
 fn taken(outcome: i32, tally: Tally) -> Answer {
