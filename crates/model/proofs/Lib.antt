@@ -12,6 +12,7 @@ pub mod Support
 pub mod Effects
 pub mod Suffice
 pub mod Sweeps
+pub mod Silence
 pub mod Written
 pub mod Rounds
 pub mod Demand
