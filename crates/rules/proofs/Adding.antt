@@ -54,7 +54,7 @@ side-ranged {n} {W} true r = record { few = r .few; range = λ y l k. at y l k }
     at y l h-max = let h = r .range y l h-min in omega (ints, neg-law (W y h-min))
 side-ranged false r = r
 
-kept-within : (t : Bool) (h : ℤ) {k : ℕ} → Within h k → Within (cond t h (pos 0)) k
+pub kept-within : (t : Bool) (h : ℤ) {k : ℕ} → Within h k → Within (cond t h (pos 0)) k
 kept-within true h w = w
 kept-within false h w = omega arith
 
@@ -73,7 +73,7 @@ pub own-within : (s : Bool) {n : ℕ} {W : Windows} (e : ℕ) → Ranged n W →
 own-within true e r l = omega arith
 own-within false e r l = r .range e l h-max
 
-within-sum : (n k : ℕ) (q : ℤ) (f : ℕ → ℤ) → n ≤ k → k ≤ 64 → Within q 1000000 → ((y : ℕ) → y < k → Within (f y) 9999) → Within (q +ℤ sum n f) 1640000
+pub within-sum : (n k : ℕ) (q : ℤ) (f : ℕ → ℤ) → n ≤ k → k ≤ 64 → Within q 1000000 → ((y : ℕ) → y < k → Within (f y) 9999) → Within (q +ℤ sum n f) 1640000
 within-sum n k q f l few w h = let s = sum-within n 9999 f (λ y b. h y (omega arith)) in omega (ints, add-law q (sum n f))
 
 -- A level, and each partial sum of all gains, is within 1,640,000 of 0.
@@ -96,14 +96,14 @@ unfolding sum
 sum-more q f i {t} {h} {r} a b d = rw (add-one i) (omega (ints, add-law q (sum i f), add-law (sum i f) (f i), add-law q (sum i f +ℤ f i)))
 
 -- ---- e's own part
-own-term : (s : Bool) (W : Windows) (e : ℕ) (u v : ℤ) → gains (switch s) W e u v e ≡ cond s (pos 0) (W e h-max)
+pub own-term : (s : Bool) (W : Windows) (e : ℕ) (u v : ℤ) → gains (switch s) W e u v e ≡ cond s (pos 0) (W e h-max)
 own-term s W e u v = rw (eq-eqb e e refl) (go s)
   where
     go : (s : Bool) → gain (placed true s (ahead s (W e t-max) u) (ahead s (W e t-min) v)) (W e h-max) ≡ cond s (pos 0) (W e h-max)
     go true = refl
     go false = refl
 
-other-term : (s : Switch) (W : Windows) (e : ℕ) (u v : ℤ) (y : ℕ) → (y ≡ e → ⊥) → gains s W e u v y ≡ other-gains s W u v y
+pub other-term : (s : Switch) (W : Windows) (e : ℕ) (u v : ℤ) (y : ℕ) → (y ≡ e → ⊥) → gains s W e u v y ≡ other-gains s W u v y
 other-term s W e u v y d = rw (ne-eqb y e d)
 
 -- All gains, less e's as another event, with e's own.

@@ -6,11 +6,15 @@ use Prim.Native.Nat.{ℕ, _+_}
 use native.Mathlib.Numerals.{add-one}
 use lib.Dec.{T}
 use lib.IntN.{ℤ}
-use lib.Signed.{leZ, ltZ}
+use lib.Signed.{leZ, ltZ, _≤ℤ_, _<ℤ_, leZ-yes}
+use Rattle.integers.proofs.Linear.{ints}
+use Rattle.integers.proofs.Tests.{is-true, true-is, and-out}
 use Rattle.model.specs.Job.{t-min, t-max, h-max, Windows, Reservoir, produces, consumes}
 use Rattle.model.specs.Levels.{Switch, Place, place, most-in, sure-part, side}
 use Rattle.model.specs.Rules.{switch, Finding, nothing, bound, given-if, counts-from, earlier, possible-producer, reached-at, earliest, time-rule, targeted}
-use Rattle.rules.specs.Values.{place-by}
+use Rattle.model.proofs.Levels.{most-later}
+use Rattle.rules.specs.Values.{place-by, Short}
+use Rattle.rules.specs.declared.Soonest.{Soonest}
 use Rattle.rules.proofs.Placing.{place-side, side-early, side-late}
 
 or-false : (b : Bool) → (b || false) ≡ b
@@ -32,6 +36,14 @@ module _ (m strict : Bool) (W : Windows) (e y : ℕ) where
   pub target-at : {u v h : ℤ} {p : Place} {r : Bool} → u ≡ W e t-min → v ≡ W e t-max → p ≡ place (switch strict) W e u v y → h ≡ side m W y h-max → r ≡ targeted p h →
       r ≡ targeted (place (switch strict) (side m W) e (side m W e t-min) (side m W e t-max) y) (side m W y h-max)
   target-at a b d f g =
+      let i = side-early m W e in
+      let j = side-late m W e in
+      let k = place-side m (switch strict) W e (W e t-min) (W e t-max) y in
+      cc
+
+  pub count-at : {u v h : ℤ} {p : Place} {r : Bool} → u ≡ W e t-min → v ≡ W e t-max → p ≡ place (switch strict) W e u v y → h ≡ side m W y h-max → r ≡ possible-producer p h →
+      r ≡ possible-producer (place (switch strict) (side m W) e (side m W e t-min) (side m W e t-max) y) (side m W y h-max)
+  count-at a b d f g =
       let i = side-early m W e in
       let j = side-late m W e in
       let k = place-side m (switch strict) W e (W e t-min) (W e t-max) y in
@@ -97,3 +109,37 @@ module _ (s : Switch) (n : ℕ) (c : Reservoir) (W : Windows) (e : ℕ) where
 
   pub time-no : {x : ℤ} {t : Bool} → x ≡ sure-part s n c W e → t ≡ ltZ x (c .min-level) → t ≡ false → nothing ≡ time-rule s n c W e
   time-no p q z = cc
+
+-- ---- the search between the times that reach the limit and those that fall short
+and-false : (a b : Bool) → b ≡ false → (a && b) ≡ false
+and-false true b e = e
+and-false false b e = refl
+
+module _ (m strict : Bool) (n : ℕ) (c : Reservoir) (W : Windows) (e y : ℕ) where
+  -- y's time falls short, as a later one does.
+  pub short-unreached : (k : Soonest) {t : ℤ} {z : Bool} → Short (switch strict) n c (side m W) e k → t ≡ counts-from strict (side m W y t-min) → z ≡ (k .found && leZ t (k .at .0)) → z ≡ true
+      → false ≡ reached-at (switch strict) n c (side m W) e y
+  short-unreached k {t} short p q r =
+      let both = and-out (k .found) (leZ t (k .at .0)) (true-is (sym q ∙ r)) in
+      let u = side m W e t-min in
+      let v = counts-from strict (side m W y t-min) in
+      let low = short (is-true (k .found) (both .0)) in
+      let up = most-later (switch strict) n c (side m W) e u v (k .at .0) (subst (λ (x : ℤ). x ≤ℤ k .at .0) p (leZ-yes (both .1))) in
+      let none : leZ (c .min-level) (most-in (switch strict) n c (side m W) e u v) ≡ false = omega ints in
+      sym (and-false (possible-producer (place (switch strict) (side m W) e u (side m W e t-max) y) (side m W y h-max)) (leZ (c .min-level) (most-in (switch strict) n c (side m W) e u v)) none)
+
+  -- A delivery that may count, at whose time the limit is not reached.
+  pub short-new : {x z : Bool} {t : ℤ} → x ≡ reached-at (switch strict) n c (side m W) e y → x ≡ false → z ≡ possible-producer (place (switch strict) (side m W) e (side m W e t-min) (side m W e t-max) y) (side m W y h-max) → z ≡ true
+      → t ≡ counts-from strict (side m W y t-min) → most-in (switch strict) n c (side m W) e (side m W e t-min) t <ℤ c .min-level
+  short-new {x} {z} {t} a b d f g =
+      let v = counts-from strict (side m W y t-min) in
+      let level = most-in (switch strict) n c (side m W) e (side m W e t-min) v in
+      let none : leZ (c .min-level) level ≡ false = unreached (possible-producer (place (switch strict) (side m W) e (side m W e t-min) (side m W e t-max) y) (side m W y h-max)) (leZ (c .min-level) level) (sym a ∙ b) (sym d ∙ f) in
+      rw g (below none)
+    where
+      unreached : (p q : Bool) → (p && q) ≡ false → p ≡ true → q ≡ false
+      unreached true q e f = e
+      unreached false q e f = absurd (subst T (sym f) tt)
+
+      below : {l : ℤ} → leZ (c .min-level) l ≡ false → l <ℤ c .min-level
+      below e = omega ints

@@ -6,10 +6,10 @@ use Prim.Native.Nat.{ℕ, zero, suc, _+_, _*_, _/_, _<_, _≤_}
 use lib.Dec.{T}
 use lib.IntN.{ℤ, pos, natAbs}
 use lib.ListN.{getD, length}
-use lib.Signed.{_≤ℤ_}
+use lib.Signed.{_≤ℤ_, _<ℤ_}
 use Rattle.integers.specs.Range.{Within}
 use Rattle.model.specs.Job.{End, t-min, t-max, h-min, h-max, Windows, Reservoir, Job}
-use Rattle.model.specs.Levels.{Switch, ahead, Place, sure, possible, never, placed, gain, side, side-reservoir}
+use Rattle.model.specs.Levels.{Switch, ahead, Place, sure, possible, never, placed, gain, most-in, side, side-reservoir}
 use Rattle.model.specs.Rules.{Finding, nothing, clash, bound, given-if, Family, level, time, height, Rule, reservoir, switch, family-rule, family-end, side-finding, rule, finding, own-end, Effect, idle, narrows, fails, effect}
 pub use Rattle.model.proofs.Ranges.{span}
 use Rattle.tables.specs.declared.Reservoir.{Reservoir as Held}
@@ -50,6 +50,10 @@ lag-at lags g i = getD lags (3 * g + i) (pos 0)
 -- The earliest time found, if any.
 abbrev pub soonest-of : Soonest → Finding
 soonest-of s = given-if (s .found) (bound (s .at .0))
+
+-- The level of e, its time window ending at the time found, is below the limit.
+abbrev pub Short : Switch → ℕ → Reservoir → Windows → ℕ → Soonest → Type 0
+Short s n c W e k = k .found ≡ true → most-in s n c W e (W e t-min) (k .at .0) <ℤ c .min-level
 
 -- A family by its number.
 abbrev pub family-of : ℕ → Family

@@ -1,5 +1,6 @@
 // What the three families of reservoir rules give on a side: the level's conflict, e's time, an amount.
 use crate::Place;
+use crate::Search;
 use crate::Soonest;
 use crate::levels::minus;
 use crate::levels::most;
@@ -25,7 +26,7 @@ ghost use Rattle.model.specs.Job.{t-min, t-max, h-min, h-max};
 ghost use Rattle.model.specs.Levels.{place, most, side};
 ghost use Rattle.model.specs.Rules.{switch, counts-from, earlier, given-if, bound, possible-producer, reached-at, earliest, time-rule, targeted};
 ghost use Rattle.tables.specs.Board.{board};
-ghost use Rattle.rules.specs.Values.{place-of, reservoir-of, soonest-of, Ranged, Reserved};
+ghost use Rattle.rules.specs.Values.{place-of, reservoir-of, soonest-of, Short, Ranged, Reserved};
 
 pub fn below(a: Height, b: Height) -> bool
     ensures { λ r. ⌜ r ≡ ltZ (a .0) (b .0) ⌝ }
@@ -113,8 +114,34 @@ fn is_beaten(best: Soonest, t: Time) -> bool
     found & (x <= y)
 }
 
-// The earlier of the best so far and y's time, if the limit is reached at y. The level is asked for only where y's time is the earlier.
-pub fn with_event(
+// The limit was found not to be reached at t or a later time.
+fn falls_short(short: Soonest, t: Time) -> bool
+    ensures { λ r. ⌜ r ≡ (short .found && leZ (t .0) (short .at .0)) ⌝ }
+{
+    let found = short.found;
+    let at = short.at;
+    let x = at.0;
+    let y = t.0;
+    found & (y <= x)
+}
+
+// Is y a delivery possibly, not surely, before (by) e?
+fn may_count(b: &[i32; 256], m: bool, strict: bool, e: usize, y: usize) -> bool
+    requires { ⌜ (e < 64) × (y < 64) × Within (board (now b) y h-min) 9999 ⌝ }
+    ensures { λ r. ⌜
+        r
+        ≡ possible-producer
+        (place (switch strict) (side m (board (now (b .entry)))) e (side m (board (now (b .entry))) e t-min) (side m (board (now (b .entry))) e t-max) y)
+        (side m (board (now (b .entry))) y h-max)
+        ⌝ }
+{
+    let p = place(b, strict, e, t_min(b, e), t_max(b, e), y);
+    let h = side_h_max(b, m, y);
+    possible_producer(p, h)
+}
+
+// The search goes on with y. The level is asked for only where y's time lies between the two.
+pub fn search_event(
     b: &[i32; 256],
     n: usize,
     c: Reservoir,
@@ -122,24 +149,47 @@ pub fn with_event(
     strict: bool,
     e: usize,
     y: usize,
-    best: Soonest,
-) -> Soonest
-    requires { ⌜ Ranged n (board (now b)) × Reserved (reservoir-of c) × (e < n) × (y < n) ⌝ }
+    s: Search,
+) -> Search
+    requires { ⌜
+        Ranged n (board (now b))
+        × Reserved (reservoir-of c)
+        × (e < n)
+        × (y < n)
+        × Short (switch strict) n (reservoir-of c) (side m (board (now b))) e (s .short)
+        ⌝ }
     ensures { λ r. ⌜
-        soonest-of r
-        ≡ earlier (soonest-of best)
+        (soonest-of (r .best)
+        ≡ earlier (soonest-of (s .best))
         (given-if (reached-at (switch strict) n (reservoir-of c) (side m (board (now (b .entry)))) e y)
-        (bound (counts-from strict (side m (board (now (b .entry))) y t-min))))
+        (bound (counts-from strict (side m (board (now (b .entry))) y t-min)))))
+        × Short (switch strict) n (reservoir-of c) (side m (board (now (b .entry)))) e (r .short)
         ⌝ }
 {
+    let best = s.best;
+    let short = s.short;
     let t = counts_from(strict, t_min(b, y));
     if is_beaten(best, t) {
-        return best;
+        return s;
+    }
+    if falls_short(short, t) {
+        return s;
     }
     if reached_at(b, n, c, m, strict, e, y) {
-        return Soonest { found: true, at: t };
+        let found = Soonest { found: true, at: t };
+        return Search {
+            best: found,
+            short: short,
+        };
     }
-    best
+    if may_count(b, m, strict, e, y) {
+        let missed = Soonest { found: true, at: t };
+        return Search {
+            best: best,
+            short: missed,
+        };
+    }
+    s
 }
 
 // The earliest time of e at which the limit is reached.
@@ -147,15 +197,20 @@ pub fn earliest(b: &[i32; 256], n: usize, c: Reservoir, m: bool, strict: bool, e
     requires { ⌜ Ranged n (board (now b)) × Reserved (reservoir-of c) × (e < n) ⌝ }
     ensures { λ r. ⌜ soonest-of r ≡ earliest (switch strict) n (reservoir-of c) (side m (board (now (b .entry)))) e n ⌝ }
 {
-    let mut best = Soonest {
+    let none = Soonest {
         found: false,
         at: Time(0),
     };
+    let mut s = Search {
+        best: none,
+        short: none,
+    };
     let mut y: usize = 0;
     while y < n {
-        best = with_event(b, n, c, m, strict, e, y, best);
+        s = search_event(b, n, c, m, strict, e, y, s);
         y += 1;
     }
+    let best = s.best;
     best
 }
 

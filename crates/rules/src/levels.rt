@@ -41,7 +41,8 @@ pub fn minus(a: Height, b: Height) -> Height
     Height(x - y)
 }
 
-fn kept(counted: bool, h: Height) -> Height
+// An amount, if it is counted.
+pub fn kept(counted: bool, h: Height) -> Height
     ensures { λ r. ⌜ r .0 ≡ cond counted (h .0) (pos 0) ⌝ }
 {
     if counted { h } else { Height(0) }
@@ -78,7 +79,8 @@ pub fn own_gain(b: &[i32; 256], m: bool, strict: bool, e: usize) -> Height
     }
 }
 
-fn opening(c: Reservoir) -> Height
+// The opening stock.
+pub fn opening(c: Reservoir) -> Height
     ensures { λ r. ⌜ r .0 ≡ c .initial .0 ⌝ }
 {
     let q = c.initial;
@@ -86,7 +88,7 @@ fn opening(c: Reservoir) -> Height
 }
 
 // The opening stock and what all events add, e taken for another event: this loop has no test for e.
-pub fn all_gains(
+fn sum_gains(
     b: &[i32; 256],
     n: usize,
     c: Reservoir,
@@ -106,6 +108,34 @@ pub fn all_gains(
         y += 1;
     }
     total
+}
+
+// The same, with the side and before or by as literals at the loop, which is then one of four without tests of them.
+pub fn all_gains(
+    b: &[i32; 256],
+    n: usize,
+    c: Reservoir,
+    m: bool,
+    strict: bool,
+    u: Time,
+    v: Time,
+) -> Height
+    requires { ⌜ Ranged n (board (now b)) × Reserved (reservoir-of c) ⌝ }
+    ensures { λ r. ⌜ r .0 ≡ c .initial .0 +ℤ sum n (other-gains (switch strict) (side m (board (now (b .entry)))) (u .0) (v .0)) ⌝ }
+{
+    if m {
+        if strict {
+            sum_gains(b, n, c, true, true, u, v)
+        } else {
+            sum_gains(b, n, c, true, false, u, v)
+        }
+    } else {
+        if strict {
+            sum_gains(b, n, c, false, true, u, v)
+        } else {
+            sum_gains(b, n, c, false, false, u, v)
+        }
+    }
 }
 
 // Most before (by) e on a side, whose reservoir is c, with u..v for e's time window.

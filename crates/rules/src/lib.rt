@@ -3,6 +3,8 @@ pub mod places; // places.rt: before and by, an event's place to e, the mirror
 pub mod levels; // levels.rt: what an event adds, most before and by, the sure part
 pub mod bounds; // bounds.rt: what the families of reservoir rules give on a side
 pub mod lags; // lags.rt: the lag table's words, rules 1 and 2
+pub mod slack; // slack.rt: what a level leaves over its limit, and whether a target can be moved by it
+pub mod calm; // calm.rt: sums that show rules at an event to do nothing
 pub mod findings; // findings.rt: the rules by number, what each gives
 pub mod effects; // effects.rt: what that does to the target's window
 pub mod premises; // premises.rt: which facts a slip quotes
@@ -21,6 +23,12 @@ pub struct Place {
 pub struct Soonest {
     pub found: bool,
     pub at: Time,
+}
+
+// The search for that time: the earliest found, and the latest at which the limit was found not to be reached.
+pub struct Search {
+    pub best: Soonest,
+    pub short: Soonest,
 }
 
 // Rules 3 to 14: the job or its mirror, before (strict) or by, and the family: 0 the level's conflict, 1 e's time, 2 an amount.

@@ -1,71 +1,41 @@
--- `rules::levels::all_gains` sums what each event adds. The loop's invariant: the total is the opening stock and the first y events' gains. Assumes nothing.
-use mathlib.Core.Path.{_≡_}
-use Prim.Native.Nat.{_≤_, _-_}
-use native.Mathlib.Omega.{arith}
-use lib.IntN.{_+ℤ_}
-use Rattle.tables.specs.Board.{board}
-use Rattle.integers.specs.Sum.{sum}
-use Rattle.model.specs.Job.{h-min}
-use Rattle.model.specs.Levels.{side}
-use Rattle.model.specs.Rules.{switch}
-use Rattle.rules.specs.Values.{other-gains}
-use Rattle.rules.proofs.Adding.{wider, side-ranged, all-within, other-within, sum-none, sum-more}
+-- `rules::levels::all_gains` calls the loop with the side and before or by as literals. Assumes nothing.
+use borrow.Author.Needs.{needs}
 use Rattle.rules.proofs.levels.all_gains.Statement.{statement}
 use Rattle.rules.proofs.levels.all_gains.Tie as tie
 
-abbrev Inv-loop : tie.InvT-loop
-Inv-loop b n m strict u v total₀ y₀ total y = (y ≤ n) × (total .0 ≡ total₀ .0 +ℤ sum y (other-gains (switch strict) (side m (board b)) (u .0) (v .0)))
+sum-gains-requires : tie.Need-sum-gains-requires
+sum-gains-requires c κs = search needs
 
-abbrev μ-loop : tie.MeasureT-loop
-μ-loop b n m strict u v total₀ y₀ total y = n - y
+sum-gains-requires-2 : tie.Need-sum-gains-requires-2
+sum-gains-requires-2 c κs = search needs
 
-opening-requires : tie.Need-opening-requires Inv-loop μ-loop
-opening-requires c κs = tt
+sum-gains-requires-3 : tie.Need-sum-gains-requires-3
+sum-gains-requires-3 c κs = search needs
 
-loop-holds : tie.Need-loop-holds Inv-loop μ-loop
-loop-holds c = let a = c .before .args in (omega arith, sum-none (c .opening .result .0) (other-gains (switch (a .strict)) (side (a .m) (board (a .b .now))) (a .u .0) (a .v .0)))
+sum-gains-requires-4 : tie.Need-sum-gains-requires-4
+sum-gains-requires-4 c κs = search needs
 
-other-gain-requires : tie.Need-other-gain-requires Inv-loop μ-loop
-other-gain-requires c κs = let s = c .before .before .before in (omega arith, s .pre .0 .range (c .before .loop .y) (omega arith) h-min)
+returns : tie.Need-returns
+returns c = rw (c .before .before .if1 .taken, c .before .if2 .taken) (c .sum-gains .ensures)
 
-plus-requires : tie.Need-plus-requires Inv-loop μ-loop
-plus-requires c κs =
-    let s = c .before .before .before .before in
-    let a = s .args in
-    let l = c .before .before .loop in
-    let r = side-ranged (a .m) (s .pre .0) in
-    let total = rw (c .before .before .before .opening .ensures) at (l .inv .1) in (
-      wider total (all-within (switch (a .strict)) (l .y) (a .u .0) (a .v .0) r (s .pre .1) (l .inv .0)) (omega arith),
-      wider (c .other-gain .ensures) (other-within (switch (a .strict)) (a .u .0) (a .v .0) (l .y) r (c .before .loop-test .taken)) (omega arith),
-    )
+returns-2 : tie.Need-returns-2
+returns-2 c = rw (c .before .before .if1 .taken, c .before .if2 .left) (c .sum-gains2 .ensures)
 
-add-y : tie.Need-add-y Inv-loop μ-loop
-add-y c = omega arith
+returns-3 : tie.Need-returns-3
+returns-3 c = rw (c .before .before .if1 .left, c .before .if3 .taken) (c .sum-gains3 .ensures)
 
-loop-less : tie.Need-loop-less Inv-loop μ-loop
-loop-less c = omega arith
-
-loop-again : tie.Need-loop-again Inv-loop μ-loop
-loop-again c =
-    let k = c .before .before .before .before in
-    let a = k .before .args in
-    let l = c .before .before .before .loop in
-    (omega arith, sum-more (k .opening .result .0) (other-gains (switch (a .strict)) (side (a .m) (board (a .b .now))) (a .u .0) (a .v .0)) (l .y) (l .inv .1) (c .before .other-gain .ensures) (c .plus .ensures))
-
-returns : tie.Need-returns Inv-loop μ-loop
-returns c = let e : c .before .loop .y ≡ c .before .before .before .args .n = omega arith in rw (e, c .before .before .opening .ensures) at (c .before .loop .inv .1)
+returns-4 : tie.Need-returns-4
+returns-4 c = rw (c .before .before .if1 .left, c .before .if3 .left) (c .sum-gains4 .ensures)
 
 pub all-gains-spec : {M : Type 1} → statement M
 all-gains-spec =
     tie.close
     (tie.spec
-    Inv-loop
-    μ-loop
-    opening-requires
-    loop-holds
-    other-gain-requires
-    plus-requires
-    add-y
-    loop-less
-    loop-again
-    returns)
+    sum-gains-requires
+    sum-gains-requires-2
+    sum-gains-requires-3
+    sum-gains-requires-4
+    returns
+    returns-2
+    returns-3
+    returns-4)
