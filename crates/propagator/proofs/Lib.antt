@@ -3,3 +3,4 @@ pub mod Wording
 pub mod Trying
 pub mod Running
 pub mod Planning
+pub mod Sparing

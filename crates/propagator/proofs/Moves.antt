@@ -13,6 +13,7 @@ use Rattle.model.specs.Rules.{rule}
 use Rattle.model.specs.Reader.{subjects}
 use Rattle.rules.proofs.Giving.{variant-is}
 use Rattle.propagator.specs.State.{state-of, Held, Grown, Made, lag-rules}
+use Rattle.propagator.specs.Sweeps.{two-rules}
 use Rattle.propagator.specs.declared.Progress.{Progress}
 
 -- Lists that agree from u on agree from any later place on.
@@ -107,13 +108,16 @@ pub lag-made : (j : Job) (g : ℕ) {n : ℕ} {b₀ buffer₀ : List ℤ} {p₀ :
     → Made n (lag-rules (length buffer₀) j g) b₀ buffer₀ p₀ b₂ buffer₂ p₂
 lag-made j g first second = made-then (λ room. attempt room 1 j g (lag-a j g)) (λ room. attempt room 2 j g (lag-b j g)) first second
 
-pub three-made : (j : Job) (r e : ℕ) {n : ℕ} {b₀ buffer₀ : List ℤ} {p₀ : Progress} {b₁ buffer₁ : List ℤ} {p₁ : Progress} {b₂ buffer₂ : List ℤ} {p₂ : Progress} {b₃ buffer₃ : List ℤ} {p₃ : Progress}
+pub two-made : (j : Job) (r e : ℕ) {n : ℕ} {b₀ buffer₀ : List ℤ} {p₀ : Progress} {b₁ buffer₁ : List ℤ} {p₁ : Progress} {b₂ buffer₂ : List ℤ} {p₂ : Progress}
     → Made n (attempt (length buffer₀) r j e e) b₀ buffer₀ p₀ b₁ buffer₁ p₁ → Made n (attempt (length buffer₁) (r + 1) j e e) b₁ buffer₁ p₁ b₂ buffer₂ p₂
+    → Made n (two-rules (length buffer₀) j r e) b₀ buffer₀ p₀ b₂ buffer₂ p₂
+two-made j r e level time = made-then (λ room. attempt room r j e e) (λ room. attempt room (r + 1) j e e) level time
+
+pub three-made : (j : Job) (r e : ℕ) {n : ℕ} {b₀ buffer₀ : List ℤ} {p₀ : Progress} {b₂ buffer₂ : List ℤ} {p₂ : Progress} {b₃ buffer₃ : List ℤ} {p₃ : Progress}
+    → Made n (two-rules (length buffer₀) j r e) b₀ buffer₀ p₀ b₂ buffer₂ p₂
     → Made n (targets-from (length buffer₂) j (r + 2) e 0 (j .events)) b₂ buffer₂ p₂ b₃ buffer₃ p₃ → Made n (three-rules (length buffer₀) j r e) b₀ buffer₀ p₀ b₃ buffer₃ p₃
 unfolding three-rules
-three-made j r e level time height =
-    made-then (λ room s. attempt room (r + 1) j e e (attempt room r j e e s)) (λ room. targets-from room j (r + 2) e 0 (j .events))
-    (made-then (λ room. attempt room r j e e) (λ room. attempt room (r + 1) j e e) level time) height
+three-made j r e two height = made-then (λ room. two-rules room j r e) (λ room. targets-from room j (r + 2) e 0 (j .events)) two height
 
 pub event-made : (j : Job) (e : ℕ) {n : ℕ} {b₀ buffer₀ : List ℤ} {p₀ : Progress} {b₁ buffer₁ : List ℤ} {p₁ : Progress} {b₂ buffer₂ : List ℤ} {p₂ : Progress} {b₃ buffer₃ : List ℤ} {p₃ : Progress} {b₄ buffer₄ : List ℤ} {p₄ : Progress}
     → Made n (three-rules (length buffer₀) j 3 e) b₀ buffer₀ p₀ b₁ buffer₁ p₁ → Made n (three-rules (length buffer₁) j 6 e) b₁ buffer₁ p₁ b₂ buffer₂ p₂

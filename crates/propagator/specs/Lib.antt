@@ -3,3 +3,4 @@ pub mod Slips
 pub mod Attempts
 pub mod Runs
 pub mod Plans
+pub mod Sweeps

@@ -4,6 +4,7 @@ use crate::Progress;
 use crate::Status;
 use crate::slips::append_slip;
 use crate::slips::own_kind;
+use crate::slips::put_slip;
 use rules::Effect;
 use rules::effects::effect;
 use rules::premises::citing;
@@ -143,8 +144,19 @@ fn act(
 {
     let n = k.events;
     let facts = citing(b, lags, n, k.reservoir, r, e, y, x);
-    let m = count_premises(b, n, facts);
     let used = p.used;
+    if used + 778 <= buffer.len() {
+        let next = put_slip(buffer, used, b, n, facts, r, e, y, x);
+        store(b, r, y, x);
+        let count = p.slips + 1;
+        return Progress {
+            used: next,
+            slips: count,
+            last: used,
+            status: status_after(x),
+        };
+    }
+    let m = count_premises(b, n, facts);
     if used + (10 + 3 * m) > buffer.len() {
         return stop(p);
     }

@@ -15,7 +15,7 @@ ghost use lib.ListN.{length};
 ghost use Rattle.model.specs.Rules.{rule, own-end};
 ghost use Rattle.model.specs.Slips.{number, slip-words, trailer, concluded-kind, concluded-value};
 ghost use Rattle.tables.specs.Board.{board};
-ghost use Rattle.rules.specs.Values.{effect-of};
+ghost use Rattle.rules.specs.Values.{effect-of, Ranged};
 ghost use Rattle.rules.specs.Quotes.{Appended};
 ghost use Rattle.propagator.specs.Slips.{slip-of, Writes};
 
@@ -141,5 +141,27 @@ pub fn append_slip(
 {
     let facts = append_head(buffer, at, r, e, y, x, m);
     let last = write_premises(buffer, facts, b, n, q);
+    append(buffer, last, 7 + 3 * m)
+}
+
+// The same where there is room for as many facts as there can be: the facts are written first, and so counted.
+pub fn put_slip(
+    buffer: &mut [i32],
+    at: usize,
+    b: &[i32; 256],
+    n: usize,
+    q: Citing,
+    r: usize,
+    e: usize,
+    y: usize,
+    x: Effect,
+) -> usize
+    requires { ⌜ Ranged n (board (now b)) × (1 ≤ r) × (r ≤ 14) × (e ≤ 256) × (y ≤ 64) × (at + 775 ≤ length (now buffer)) ⌝ }
+    ensures { λ end. ⌜ Appended at (slip-words (slip-of n (board (now (b .entry))) q r e y x)) (now (buffer .entry)) (now (buffer .exit)) end ⌝ }
+{
+    let facts = at + 6;
+    let last = write_premises(buffer, facts, b, n, q);
+    let m = (last - facts) / 3;
+    append_head(buffer, at, r, e, y, x, m);
     append(buffer, last, 7 + 3 * m)
 }
