@@ -2,7 +2,7 @@
 use checker::Verdict;
 use propagator::Answer;
 use propagator::Counts;
-use tables::Refusal;
+use questions::Refusal;
 ghost use mathlib.Core.Path.{_≡_};
 ghost use lib.IntN.{natAbs};
 

@@ -16,19 +16,19 @@ use Rattle.model.specs.Reader.{at, stop-of, counted, read-from, read-all, judge
 use Rattle.model.specs.Reader as model
 use Rattle.model.proofs.Questions.{Asked, asked}
 use Rattle.tables.specs.Board.{board, table-of, Loaded}
-use Rattle.tables.specs.Asked.{check-of}
+use Rattle.questions.specs.Asked.{check-of}
 use Rattle.rules.specs.Values.{job-of}
-use Rattle.checker.specs.Slip.{Called, Ends}
-use Rattle.checker.specs.Wide.{Wide}
+use Rattle.checker.specs.Turns.{Called, Ends}
+use Rattle.judging.specs.Wide.{Wide}
 use Rattle.checker.specs.Verdict.{trailed, closed-at, reply-of, accepting, left-by, closing-reply, called, Passing, Trailed, read-over, found, Judges}
 use Rattle.checker.specs.declared.Ended.{Ended}
 use Rattle.checker.specs.declared.Ended.the-variants.{Done, Refused as Cut}
 use Rattle.checker.specs.declared.Tail.{Tail}
 use Rattle.checker.specs.declared.Verdict.{Verdict}
 use Rattle.checker.specs.declared.Verdict.the-variants.{Refused}
-use Rattle.tables.specs.declared.Refusal.{Refusal}
-use Rattle.tables.specs.declared.Check.{Check as Asks}
-use Rattle.tables.specs.declared.Check.the-variants.{Pass, Refuse}
+use Rattle.questions.specs.declared.Refusal.{Refusal}
+use Rattle.questions.specs.declared.Check.{Check as Asks}
+use Rattle.questions.specs.declared.Check.the-variants.{Pass, Refuse}
 
 -- ---- the trailer
 

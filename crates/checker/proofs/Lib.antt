@@ -1,10 +1,3 @@
-pub mod Slips
-pub mod Ends
-pub mod Facts
-pub mod Widest
-pub mod Named
-pub mod Given
-pub mod Passing
 pub mod Turning
 pub mod Looping
 pub mod Judging

@@ -20,8 +20,10 @@ use Rattle.model.proofs.Accepted.{passed, passed-standing}
 use Rattle.rules.proofs.Putting.{reserved}
 use Rattle.tables.specs.Board.{board, table-of, Whole as Full}
 use Rattle.tables.proofs.Board.{windows-board, length-table}
-use Rattle.rules.specs.Values.{span, job-of}
-use Rattle.checker.specs.Slip.{Ready, Called, Turn, turn, Stepped}
+use Rattle.levels.specs.Values.{span}
+use Rattle.rules.specs.Values.{job-of}
+use Rattle.judging.specs.Slip.{Ready}
+use Rattle.checker.specs.Turns.{Called, Turn, turn, Stepped}
 use Rattle.checker.specs.declared.Step.{Step}
 use Rattle.checker.specs.declared.Step.the-variants.{On, No}
 use Rattle.checker.proofs.Turning.{reads-off, reads-on, turn-agree}

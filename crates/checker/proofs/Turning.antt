@@ -15,16 +15,18 @@ use Rattle.model.specs.Questions.{Check, pass, refuse}
 use Rattle.model.specs.Reader.{Reading, slip, cut, reading, slip-questions, is-conflict, applied, read-from}
 use Rattle.tables.specs.Board.{table-of, Whole as Full}
 use Rattle.tables.proofs.Board.{table-set}
-use Rattle.checker.specs.Slip.{headed, explanation-of, reading-of, Placed, Stands, Applies, numbered, turn, on, off}
-use Rattle.checker.specs.declared.Read.{Read}
-use Rattle.checker.specs.declared.Read.the-variants.{Whole, Cut}
-use Rattle.checker.specs.declared.Slip.{Slip}
+use Rattle.slips.specs.Reading.{headed, explanation-of, reading-of, Placed, Stands}
+use Rattle.checker.specs.Turns.{Applies, turn, on, off}
+use Rattle.judging.specs.Slip.{numbered}
+use Rattle.slips.specs.declared.Read.{Read}
+use Rattle.slips.specs.declared.Read.the-variants.{Whole, Cut}
+use Rattle.slips.specs.declared.Slip.{Slip}
 use Rattle.model.proofs.Standing.{Sane}
 use Rattle.model.proofs.Agree.{Agree, slip-questions-agree}
 use Rattle.model.proofs.Accepted.{passed}
 use Rattle.model.proofs.Sound.{named}
-use Rattle.checker.proofs.Named.{Own}
-use Rattle.checker.proofs.Passing.{header-signs}
+use Rattle.judging.proofs.Named.{Own}
+use Rattle.judging.proofs.Passing.{header-signs}
 
 -- ---- the narrowing made
 

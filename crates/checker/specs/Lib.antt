@@ -1,3 +1,2 @@
-pub mod Slip
-pub mod Wide
+pub mod Turns
 pub mod Verdict

@@ -1,24 +1,18 @@
 // The slip reader: accepts or refuses any list of slips, whoever wrote it.
-pub mod words; // words.rt: the words of a list: any numbers
-pub mod reading; // reading.rt: 13: a slip read from the list
-pub mod premises; // premises.rt: the facts of a slip: 14 and 15, and windows narrowed by them
-pub mod opened; // opened.rt: the widest windows
-pub mod naming; // naming.rt: 14: what a slip names
-pub mod giving; // giving.rt: 16 to 18: what its rule gives on the fact windows, and what it does
 pub mod turns; // turns.rt: all slips in turn, each narrowing made before the next
 
-use crate::opened::widen;
 use crate::turns::read_all;
-use crate::words::index;
-use crate::words::not_negative;
-use crate::words::word_at;
-use crate::words::word_is;
-use tables::Check;
+use judging::opened::widen;
+use questions::Check;
+use questions::Refusal;
+use questions::asked::questions;
+use slips::words::index;
+use slips::words::not_negative;
+use slips::words::word_at;
+use slips::words::word_is;
 use tables::Height;
-use tables::Refusal;
 use tables::Reservoir;
 use tables::Time;
-use tables::asked::questions;
 use tables::cage;
 use tables::load;
 use tables::unload;
@@ -27,36 +21,10 @@ ghost use mathlib.Core.Path.{_≡_};
 ghost use Prim.Native.Nat.{_*_, _<_, _≤_};
 ghost use Rattle.model.specs.Reader.{check};
 ghost use Rattle.tables.specs.Board.{table-of};
-ghost use Rattle.rules.specs.Values.{job-of, reservoir-of};
-ghost use Rattle.checker.specs.Slip.{Called};
+ghost use Rattle.rules.specs.Values.{job-of};
+ghost use Rattle.levels.specs.Values.{reservoir-of};
+ghost use Rattle.checker.specs.Turns.{Called};
 ghost use Rattle.checker.specs.Verdict.{trailed, closed-at, reply-of, accepting, left-by, closing-reply, called, Passing, Trailed, read-over, found, Judges};
-
-// A word of a list: any number.
-pub struct Word(pub i32);
-
-// A slip: its header, the word place of its first fact, and the number of its facts.
-pub struct Slip {
-    pub rule: usize,
-    pub subject: Word,
-    pub target: Word,
-    pub kind: Word,
-    pub value: Word,
-    pub facts: usize,
-    pub count: usize,
-}
-
-// A slip read comes apart as a slip and the place after it, or as a refusal.
-pub enum Read {
-    Whole(Slip, usize),
-    Cut,
-}
-
-// A fact: its event, its kind, its value.
-pub struct Fact {
-    pub event: usize,
-    pub kind: usize,
-    pub value: Word,
-}
 
 // One slip read and asked: the place after it and whether it is a conflict, or the number of a refusal.
 pub enum Step {

@@ -1,16 +1,16 @@
 // All slips in turn, each narrowing made before the next.
 use crate::Ended;
-use crate::Read;
-use crate::Slip;
 use crate::Step;
 use crate::Tail;
-use crate::Word;
-use crate::giving::slip_questions;
-use crate::naming::end_kind;
-use crate::reading::read_slip;
-use crate::words::index;
-use crate::words::word_is;
-use tables::Refusal;
+use judging::giving::slip_questions;
+use judging::naming::end_kind;
+use questions::Refusal;
+use slips::Read;
+use slips::Slip;
+use slips::Word;
+use slips::reading::read_slip;
+use slips::words::index;
+use slips::words::word_is;
 use tables::Reservoir;
 use tables::Time;
 ghost use mathlib.Core.Path.{_≡_};
@@ -22,9 +22,12 @@ ghost use Rattle.model.specs.Slips.{Premise};
 ghost use Rattle.model.specs.Job.{windows, widest};
 ghost use Rattle.model.specs.Reader.{is-conflict, applied, read-from};
 ghost use Rattle.model.proofs.Standing.{Sane};
-ghost use Rattle.rules.specs.Values.{job-of, reservoir-of};
+ghost use Rattle.rules.specs.Values.{job-of};
+ghost use Rattle.levels.specs.Values.{reservoir-of};
 ghost use Rattle.tables.specs.Board.{board, table-of, Whole};
-ghost use Rattle.checker.specs.Slip.{headed, Ready, Applies, turn, Stepped, Called, Ends};
+ghost use Rattle.slips.specs.Reading.{headed};
+ghost use Rattle.judging.specs.Slip.{Ready};
+ghost use Rattle.checker.specs.Turns.{Applies, turn, Stepped, Called, Ends};
 
 // The end of this kind of event y becomes v.
 pub fn store(b: &mut [i32; 256], kind: usize, y: usize, v: Word)

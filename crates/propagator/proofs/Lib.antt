@@ -1,6 +1,2 @@
-pub mod Moves
-pub mod Wording
-pub mod Trying
 pub mod Running
 pub mod Planning
-pub mod Sparing

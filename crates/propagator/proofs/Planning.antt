@@ -16,21 +16,21 @@ use Rattle.model.proofs.Questions.{Asked, asked}
 use Rattle.model.proofs.Ranges.{end-range}
 use Rattle.model.proofs.Standing.{Sane}
 use Rattle.tables.specs.Board.{table-of, Loaded}
-use Rattle.tables.specs.Asked.{check-of}
-use Rattle.tables.specs.declared.Check.{Check}
-use Rattle.tables.specs.declared.Check.the-variants.{Pass, Refuse}
-use Rattle.tables.specs.declared.Refusal.{Refusal}
+use Rattle.questions.specs.Asked.{check-of}
+use Rattle.questions.specs.declared.Check.{Check}
+use Rattle.questions.specs.declared.Check.the-variants.{Pass, Refuse}
+use Rattle.questions.specs.declared.Refusal.{Refusal}
 use Rattle.tables.proofs.Board.{windows-board}
-use Rattle.rules.specs.Values.{Ranged}
-use Rattle.rules.specs.Quotes.{Appended}
-use Rattle.propagator.specs.State.{job-at, Held}
+use Rattle.levels.specs.Values.{Ranged}
+use Rattle.slips.specs.Words.{Appended}
+use Rattle.rounds.specs.State.{job-at, Held}
 use Rattle.propagator.specs.Runs.{fresh, verdict-of, run-of, Ran}
 use Rattle.propagator.specs.Plans.{reply-of, task-of, Outcomes}
-use Rattle.propagator.specs.declared.Job.{Job as Task}
+use Rattle.rounds.specs.declared.Job.{Job as Task}
 use Rattle.propagator.specs.declared.Answer.{Answer}
 use Rattle.propagator.specs.declared.Answer.the-variants.{Refused}
 use Rattle.propagator.specs.declared.Ended.{Ended}
-use Rattle.propagator.proofs.Moves.{drop-later}
+use Rattle.slips.proofs.Wording.{drop-later}
 
 -- ---- the board at the start
 

@@ -14,11 +14,11 @@ use Rattle.model.specs.Job.{Job}
 use Rattle.model.specs.Rounds as model
 use Rattle.model.specs.Rounds.{State, Run, running, ended, settled, round, run, start}
 use Rattle.tables.specs.Board.{table-of}
-use Rattle.propagator.specs.State.{status-of, still, state-of, Held, Grown, Made}
+use Rattle.rounds.specs.State.{status-of, still, state-of, Held, Grown, Made}
 use Rattle.propagator.specs.Runs.{fresh, verdict-of, Tested, Ran}
-use Rattle.propagator.proofs.Moves.{grown-none, grown-more}
-use Rattle.propagator.specs.declared.Progress.{Progress}
-use Rattle.propagator.specs.declared.Status.{Status}
+use Rattle.rounds.proofs.Moves.{grown-none, grown-more}
+use Rattle.rounds.specs.declared.Progress.{Progress}
+use Rattle.rounds.specs.declared.Status.{Status}
 use Rattle.propagator.specs.declared.Verdict.{Verdict}
 use Rattle.propagator.specs.declared.Verdict.the-variants.{Settled}
 

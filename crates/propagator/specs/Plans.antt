@@ -5,7 +5,7 @@ use Prim.Native.Nat.{ℕ}
 use lib.IntN.{ℤ}
 use Rattle.model.specs.Rounds.{settled, conflict, stopped}
 use Rattle.model.specs.Planner.{Reply, refused, done, Outcome}
-use Rattle.propagator.specs.declared.Job.{Job}
+use Rattle.rounds.specs.declared.Job.{Job}
 use Rattle.propagator.specs.declared.Answer.{Answer}
 use Rattle.propagator.specs.declared.Answer.the-variants.{Settled, Conflict, Stopped, Refused}
 

@@ -9,9 +9,9 @@ use Rattle.model.specs.Job.{Job}
 use Rattle.model.specs.Rounds as model
 use Rattle.model.specs.Rounds.{ended, settled, conflict, stopped, start}
 use Rattle.tables.specs.Board.{table-of}
-use Rattle.propagator.specs.State.{status-of, still, state-of, Grown}
-use Rattle.propagator.specs.declared.Progress.{Progress}
-use Rattle.propagator.specs.declared.Status.the-variants.{Running}
+use Rattle.rounds.specs.State.{status-of, still, state-of, Grown}
+use Rattle.rounds.specs.declared.Progress.{Progress}
+use Rattle.rounds.specs.declared.Status.the-variants.{Running}
 use Rattle.propagator.specs.declared.Verdict.{Verdict}
 use Rattle.propagator.specs.declared.Verdict.the-variants.{Settled, Conflict, Stopped}
 use Rattle.propagator.specs.declared.Ended.{Ended}

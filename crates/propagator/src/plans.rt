@@ -2,13 +2,13 @@
 use crate::Answer;
 use crate::Counts;
 use crate::Ended;
-use crate::Job;
 use crate::Verdict;
 use crate::runs::run;
-use crate::slips::append_trailer;
-use tables::Check;
+use questions::Check;
+use questions::asked::questions;
+use rounds::Job;
+use slips::appending::append_trailer;
 use tables::Time;
-use tables::asked::questions;
 use tables::cage;
 use tables::load;
 use tables::unload;
@@ -19,8 +19,8 @@ ghost use Rattle.model.specs.Job.{windows};
 ghost use Rattle.model.specs.Rounds.{run, start};
 ghost use Rattle.model.specs.Planner.{done, planned, plan};
 ghost use Rattle.model.proofs.Standing.{Sane};
-ghost use Rattle.rules.specs.Values.{Ranged};
-ghost use Rattle.propagator.specs.State.{job-at};
+ghost use Rattle.levels.specs.Values.{Ranged};
+ghost use Rattle.rounds.specs.State.{job-at};
 ghost use Rattle.propagator.specs.Runs.{verdict-of};
 ghost use Rattle.propagator.specs.Plans.{reply-of, task-of, Outcomes};
 

@@ -1,14 +1,14 @@
 // Rounds until settled, conflict or stopped.
 use crate::Ended;
-use crate::Job;
-use crate::Progress;
-use crate::Status;
 use crate::Verdict;
-use crate::attempts::is_running;
-use crate::sweeps::round;
+use rounds::Job;
+use rounds::Progress;
+use rounds::Status;
+use rounds::attempts::is_running;
+use rounds::sweeps::round;
 ghost use mathlib.Core.Path.{_≡_};
 ghost use Rattle.model.proofs.Standing.{Sane};
-ghost use Rattle.propagator.specs.State.{job-at, Held};
+ghost use Rattle.rounds.specs.State.{job-at, Held};
 ghost use Rattle.propagator.specs.Runs.{fresh, Tested, Ran};
 
 // No slip yet.

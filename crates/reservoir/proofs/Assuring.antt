@@ -17,7 +17,7 @@ use Rattle.propagator.specs.Plans.{reply-of as answer-of}
 use Rattle.checker.specs.Verdict.{reply-of as verdict-of}
 use Rattle.propagator.specs.declared.Answer.{Answer}
 use Rattle.propagator.specs.declared.Answer.the-variants.{Settled, Conflict, Stopped, Refused}
-use Rattle.tables.specs.declared.Refusal.{Refusal}
+use Rattle.questions.specs.declared.Refusal.{Refusal}
 use Rattle.reservoir.specs.Assured.{written-of, Copied, Unread, Taken, Assured}
 use Rattle.reservoir.specs.declared.Checked.{Checked}
 use Rattle.reservoir.specs.declared.Written.{Written}

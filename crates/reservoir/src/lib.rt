@@ -6,7 +6,7 @@ use checker::Verdict;
 use checker::check;
 use propagator::Answer;
 use propagator::plans::plan;
-use tables::Refusal;
+use questions::Refusal;
 ghost use Rattle.reservoir.specs.Assured.{written-of, Copied, Unread, Assured};
 ghost use mathlib.Core.Path.{_≡_};
 ghost use lib.ListN.{length};

@@ -13,9 +13,10 @@ use Rattle.model.specs.Job.{t-min, t-max, h-max, Windows, Reservoir, produces, 
 use Rattle.model.specs.Levels.{Switch, Place, place, most-in, sure-part, side}
 use Rattle.model.specs.Rules.{switch, Finding, nothing, bound, given-if, counts-from, earlier, possible-producer, reached-at, earliest, time-rule, targeted}
 use Rattle.model.proofs.Levels.{most-later}
-use Rattle.rules.specs.Values.{place-by, Short}
+use Rattle.levels.specs.Values.{place-by}
+use Rattle.rules.specs.Values.{Short}
 use Rattle.rules.specs.declared.Soonest.{Soonest}
-use Rattle.rules.proofs.Placing.{place-side, side-early, side-late}
+use Rattle.levels.proofs.Placing.{place-side, side-early, side-late}
 
 or-false : (b : Bool) → (b || false) ≡ b
 or-false true = refl

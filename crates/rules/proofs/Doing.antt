@@ -11,7 +11,8 @@ use Rattle.integers.proofs.Linear.{ints}
 use Rattle.model.specs.Job.{End, t-min, t-max, h-min, h-max, Windows}
 use Rattle.model.specs.Levels.{side-end}
 use Rattle.model.specs.Rules.{Finding, nothing, clash, bound, Rule, reservoir, rule, family-end, own-end, narrows, effect}
-use Rattle.rules.specs.Values.{family-of, narrowing, span, Ranged, Did}
+use Rattle.rules.specs.Values.{family-of, narrowing, Did}
+use Rattle.levels.specs.Values.{span, Ranged}
 use Rattle.rules.specs.declared.Effect.{Effect as Done}
 
 -- ---- the end of a rule's bound

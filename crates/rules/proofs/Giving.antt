@@ -12,7 +12,8 @@ use Rattle.integers.proofs.Linear.{ints, neg-law}
 use Rattle.model.specs.Job.{t-min, t-max, h-min, h-max, Windows, Reservoir}
 use Rattle.model.specs.Levels.{place, most, side, side-value, side-reservoir}
 use Rattle.model.specs.Rules.{switch, Finding, nothing, clash, bound, given-if, Family, level, time, height, reservoir, rule, finding, time-rule, targeted, side-finding}
-use Rattle.rules.specs.Values.{family-of, side-rule, job-of, lag-at, Reserved, Lagged}
+use Rattle.rules.specs.Values.{family-of, side-rule, job-of, lag-at, Lagged}
+use Rattle.levels.specs.Values.{Reserved}
 
 -- The three tests on a number of 3..14.
 pub variant-is : (r : ℕ) → 3 ≤ r → r ≤ 14 → reservoir (eqb ((r - 3) / 3 % 2) 1) (ltb (r - 3) 6) (family-of ((r - 3) % 3)) ≡ rule r

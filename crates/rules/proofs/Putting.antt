@@ -6,7 +6,8 @@ use lib.IntN.{ℤ}
 use lib.ListN.{length}
 use Rattle.model.specs.Job.{Reservoir}
 use Rattle.model.proofs.Standing.{Sane}
-use Rattle.rules.specs.Values.{job-of, Reserved, Lagged}
+use Rattle.rules.specs.Values.{job-of, Lagged}
+use Rattle.levels.specs.Values.{Reserved}
 
 module _ {h : ℤ} {c : Reservoir} {n : ℕ} {lags : List ℤ} (s : Sane (job-of h c n lags)) where
   pub reserved : Reserved c

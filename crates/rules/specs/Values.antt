@@ -9,35 +9,16 @@ use lib.ListN.{getD, length}
 use lib.Signed.{_≤ℤ_, _<ℤ_}
 use Rattle.integers.specs.Range.{Within}
 use Rattle.model.specs.Job.{End, t-min, t-max, h-min, h-max, Windows, Reservoir, Job}
-use Rattle.model.specs.Levels.{Switch, ahead, Place, sure, possible, never, placed, gain, most-in, side, side-reservoir}
+use Rattle.model.specs.Levels.{Switch, most-in, side, side-reservoir}
 use Rattle.model.specs.Rules.{Finding, nothing, clash, bound, given-if, Family, level, time, height, Rule, reservoir, switch, family-rule, family-end, side-finding, rule, finding, own-end, Effect, idle, narrows, fails, effect}
 pub use Rattle.model.proofs.Ranges.{span}
-use Rattle.tables.specs.declared.Reservoir.{Reservoir as Held}
-use Rattle.rules.specs.declared.Place.{Place as Tested}
 use Rattle.rules.specs.declared.Soonest.{Soonest}
 use Rattle.rules.specs.declared.Variant.{Variant}
 use Rattle.rules.specs.declared.Finding.{Finding as Found}
 use Rattle.rules.specs.declared.Finding.the-variants.{Nothing, Clash, At, Of}
 use Rattle.rules.specs.declared.Effect.{Effect as Done}
 use Rattle.rules.specs.declared.Effect.the-variants.{Idle, NarrowsTime, NarrowsHeight, Fails}
-
--- A place by its two tests.
-abbrev pub place-by : Bool → Bool → Place
-place-by true b = sure
-place-by false true = possible
-place-by false false = never
-
--- The code's place.
-abbrev pub place-of : Tested → Place
-place-of p = place-by (p .sure) (p .possible)
-
--- The code's reservoir.
-abbrev pub reservoir-of : Held → Reservoir
-reservoir-of c = record { min-level = c .low .0; max-level = c .high .0; initial = c .initial .0 }
-
--- What y, as another event than e, adds to the level of e, whose time window is u..v.
-abbrev pub other-gains : Switch → Windows → ℤ → ℤ → ℕ → ℤ
-other-gains s W u v y = gain (placed false (s y) (ahead (s y) (W y t-max) u) (ahead (s y) (W y t-min) v)) (W y h-max)
+use Rattle.levels.specs.Values.{span, Ranged, Reserved}
 
 -- The job of a horizon, a reservoir, the number of events and the lag table's words.
 abbrev pub job-of : ℤ → Reservoir → ℕ → List ℤ → Job
@@ -108,17 +89,6 @@ side-rule f m strict n c W e y =
     side-finding m (family-end f) (family-rule f (switch strict) n (side-reservoir m c) (side m W) e y)
 
 -- ---- the numbers in play
-
--- The windows of n events, at most 64.
-pub record Ranged (n : ℕ) (W : Windows) : Type 0 where
-  pub few : n ≤ 64
-  pub range : (y : ℕ) → y < n → (k : End) → Within (W y k) (span k)
-
--- The reservoir's limits and opening stock.
-pub record Reserved (c : Reservoir) : Type 0 where
-  pub min-range : Within (c .min-level) 1000000
-  pub max-range : Within (c .max-level) 1000000
-  pub initial-range : Within (c .initial) 1000000
 
 -- Lag g of the table between two events of the n, its gap in −20,000..20,000.
 pub record Lagged (n : ℕ) (lags : List ℤ) (g : ℕ) : Type 0 where

@@ -1,16 +1,18 @@
 // What the three families of reservoir rules give on a side: the level's conflict, e's time, an amount.
-use crate::Place;
 use crate::Search;
 use crate::Soonest;
-use crate::levels::minus;
-use crate::levels::most;
-use crate::levels::most_in;
-use crate::levels::sure_part;
-use crate::places::consumes;
-use crate::places::minute_after;
-use crate::places::place;
-use crate::places::produces;
-use crate::places::side_h_max;
+use levels::Place;
+use levels::levels::minus;
+use levels::levels::most;
+use levels::levels::most_in;
+use levels::levels::sure_part;
+use levels::places::at_most;
+use levels::places::below;
+use levels::places::consumes;
+use levels::places::minute_after;
+use levels::places::place;
+use levels::places::produces;
+use levels::places::side_h_max;
 use tables::Height;
 use tables::Reservoir;
 use tables::Time;
@@ -26,19 +28,8 @@ ghost use Rattle.model.specs.Job.{t-min, t-max, h-min, h-max};
 ghost use Rattle.model.specs.Levels.{place, most, side};
 ghost use Rattle.model.specs.Rules.{switch, counts-from, earlier, given-if, bound, possible-producer, reached-at, earliest, time-rule, targeted};
 ghost use Rattle.tables.specs.Board.{board};
-ghost use Rattle.rules.specs.Values.{place-of, reservoir-of, soonest-of, Short, Ranged, Reserved};
-
-pub fn below(a: Height, b: Height) -> bool
-    ensures { λ r. ⌜ r ≡ ltZ (a .0) (b .0) ⌝ }
-{
-    a.0 < b.0
-}
-
-pub fn at_most(a: Height, b: Height) -> bool
-    ensures { λ r. ⌜ r ≡ leZ (a .0) (b .0) ⌝ }
-{
-    a.0 <= b.0
-}
+ghost use Rattle.levels.specs.Values.{place-of, reservoir-of, Ranged, Reserved};
+ghost use Rattle.rules.specs.Values.{soonest-of, Short};
 
 // ---- the level
 

@@ -7,15 +7,16 @@ use crate::bounds::level_clashes;
 use crate::bounds::time_rule;
 use crate::lags::lag_lower;
 use crate::lags::lag_upper;
-use crate::places::side_height;
-use crate::places::side_reservoir;
+use levels::places::side_height;
+use levels::places::side_reservoir;
 use tables::Reservoir;
 ghost use mathlib.Core.Path.{_≡_};
 ghost use Prim.Native.Nat.{_<_, _≤_};
 ghost use lib.IntN.{ℤ};
 ghost use Rattle.model.specs.Rules.{rule, level, time, height, finding};
 ghost use Rattle.tables.specs.Board.{board};
-ghost use Rattle.rules.specs.Values.{reservoir-of, variant-of, finding-of, job-of, side-rule, Ranged, Reserved, Put};
+ghost use Rattle.levels.specs.Values.{reservoir-of, Ranged, Reserved};
+ghost use Rattle.rules.specs.Values.{variant-of, finding-of, job-of, side-rule, Put};
 
 // Rules 3 to 14 by number.
 pub fn variant(r: usize) -> Variant

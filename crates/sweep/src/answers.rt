@@ -6,7 +6,7 @@ use super::words::checksum;
 use checker::Verdict;
 use propagator::Answer;
 use propagator::Counts;
-use tables::Refusal;
+use questions::Refusal;
 ghost use Prim.Native.Nat.{_≤_};
 
 fn counts(out: &mut [u8; 65536], at: usize, c: Counts) -> usize

@@ -2,7 +2,7 @@
 use mathlib.Core.Path.{ap}
 use mir.Facts.{toZ-ofZ}
 use borrow.Author.Needs.{needs}
-use Rattle.rules.specs.Values.{reservoir-of}
+use Rattle.levels.specs.Values.{reservoir-of}
 use Rattle.checker.proofs.Judging.{check-refused, room-there, check-unmarked, check-passing, check-judged}
 use Rattle.checker.proofs.check.Statement.{statement}
 use Rattle.checker.proofs.check.Tie as tie

@@ -1,7 +1,7 @@
 -- `checker::judge` gives the verdict of the reader and stores its windows. Assumes nothing.
 use mathlib.Core.Path.{refl}
 use borrow.Author.Needs.{needs}
-use Rattle.rules.specs.Values.{reservoir-of}
+use Rattle.levels.specs.Values.{reservoir-of}
 use Rattle.checker.proofs.Judging.{few, whole-events, trailer-right, call, stored}
 use Rattle.checker.proofs.judge.Statement.{statement}
 use Rattle.checker.proofs.judge.Tie as tie

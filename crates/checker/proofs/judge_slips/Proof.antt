@@ -1,7 +1,7 @@
 -- `checker::judge_slips` gives the verdict and the windows of the reader. Assumes nothing.
 use native.Mathlib.Omega.{arith}
 use borrow.Author.Needs.{needs}
-use Rattle.rules.specs.Values.{reservoir-of}
+use Rattle.levels.specs.Values.{reservoir-of}
 use Rattle.checker.proofs.Judging.{judges-cut, judges-done, last-in}
 use Rattle.checker.proofs.judge_slips.Statement.{statement}
 use Rattle.checker.proofs.judge_slips.Tie as tie

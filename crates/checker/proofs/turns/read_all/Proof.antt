@@ -2,11 +2,11 @@
 -- Assumes nothing.
 use Rattle.checker.proofs.Looping.{stepped-as}
 use Rattle.checker.specs.declared.Step.the-variants.{On, No}
-use Rattle.checker.specs.Slip.{turn}
+use Rattle.checker.specs.Turns.{turn}
 use Rattle.rules.specs.Values.{job-of}
 use Rattle.tables.specs.Board.{board}
 use Rattle.checker.proofs.Looping.{At, begins, ready, refuses, goes-on, finishes}
-use Rattle.rules.specs.Values.{reservoir-of}
+use Rattle.levels.specs.Values.{reservoir-of}
 use Prim.Native.Nat.{_-_}
 use borrow.Author.Needs.{needs}
 use native.Mathlib.Omega.{arith}

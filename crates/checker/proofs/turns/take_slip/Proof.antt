@@ -2,8 +2,9 @@
 -- Assumes nothing.
 use Rattle.model.specs.Reader.{premises-at}
 use Rattle.checker.proofs.Turning.{placed-of, turn-cut, turn-no, turn-on, passes, applies-is}
-use Rattle.checker.specs.Slip.{explanation-of}
-use Rattle.rules.specs.Values.{job-of, reservoir-of}
+use Rattle.slips.specs.Reading.{explanation-of}
+use Rattle.rules.specs.Values.{job-of}
+use Rattle.levels.specs.Values.{reservoir-of}
 use Rattle.tables.specs.Board.{board}
 use borrow.Author.Needs.{needs}
 use Rattle.checker.proofs.turns.take_slip.Statement.{statement}

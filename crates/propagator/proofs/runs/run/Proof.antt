@@ -3,7 +3,7 @@ use mathlib.Core.Path.{_∙_}
 use Prim.Native.Nat.{_-_}
 use native.Mathlib.Omega.{arith}
 use lib.ListN.{length}
-use Rattle.propagator.specs.State.{job-at}
+use Rattle.rounds.specs.State.{job-at}
 use Rattle.propagator.proofs.Running.{Rolling, rolling-start, rolling-ends, rolling-settles, rolling-on}
 use Rattle.propagator.proofs.runs.run.Statement.{statement}
 use Rattle.propagator.proofs.runs.run.Tie as tie

@@ -7,7 +7,8 @@ use lib.Dec.{T}
 use Rattle.tables.specs.Board.{board}
 use Rattle.model.specs.Levels.{side}
 use Rattle.model.specs.Rules.{switch, earliest}
-use Rattle.rules.specs.Values.{reservoir-of, soonest-of, Short}
+use Rattle.levels.specs.Values.{reservoir-of}
+use Rattle.rules.specs.Values.{soonest-of, Short}
 use Rattle.rules.proofs.Bounding.{earliest-none, earliest-more}
 use Rattle.rules.proofs.bounds.earliest.Statement.{statement}
 use Rattle.rules.proofs.bounds.earliest.Tie as tie

@@ -5,9 +5,9 @@ use Rattle.tables.specs.Board.{board}
 use Rattle.model.specs.Job.{t-min, t-max, h-min, h-max}
 use Rattle.model.specs.Levels.{side}
 use Rattle.model.specs.Rules.{switch}
-use Rattle.rules.proofs.Adding.{wider, apart, side-ranged, most-within}
+use Rattle.levels.proofs.Adding.{wider, apart, side-ranged, most-within}
 use borrow.Author.Needs.{needs}
-use Rattle.rules.proofs.Adding.{wider, side-ranged, most-within}
+use Rattle.levels.proofs.Adding.{wider, side-ranged, most-within}
 use Rattle.model.specs.Job.{h-min, h-max}
 use Rattle.model.specs.Levels.{side, most}
 use Rattle.rules.proofs.bounds.height_bound.Statement.{statement}

@@ -5,8 +5,8 @@ use Rattle.tables.specs.Board.{board}
 use Rattle.model.specs.Job.{t-min, h-min}
 use Rattle.model.specs.Levels.{side}
 use Rattle.model.specs.Rules.{switch, reached-at}
-use Rattle.rules.specs.Values.{reservoir-of}
-use Rattle.rules.proofs.Adding.{wider}
+use Rattle.levels.specs.Values.{reservoir-of}
+use Rattle.levels.proofs.Adding.{wider}
 use Rattle.rules.proofs.Bounding.{counts-at, best-stays, best-new, best-alone, short-unreached, short-new}
 use borrow.Author.Needs.{needs}
 use Rattle.rules.proofs.bounds.search_event.Statement.{statement}

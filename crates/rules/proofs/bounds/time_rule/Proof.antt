@@ -2,7 +2,7 @@
 use Rattle.tables.specs.Board.{board}
 use Rattle.model.specs.Levels.{side}
 use Rattle.model.specs.Rules.{switch}
-use Rattle.rules.specs.Values.{reservoir-of}
+use Rattle.levels.specs.Values.{reservoir-of}
 use Rattle.rules.proofs.Bounding.{time-yes, time-no}
 use borrow.Author.Needs.{needs}
 use Rattle.rules.proofs.bounds.time_rule.Statement.{statement}

@@ -1,10 +1,10 @@
 -- `rules::findings::height_finding` gives the height rule's finding on a side. Assumes nothing.
 use native.Mathlib.Omega.{arith}
 use Rattle.tables.specs.Board.{board}
-use Rattle.rules.specs.Values.{reservoir-of}
+use Rattle.levels.specs.Values.{reservoir-of}
 use Rattle.model.specs.Job.{h-min}
 use Rattle.model.specs.Rules.{switch}
-use Rattle.rules.proofs.Adding.{wider, side-ranged, bound-within}
+use Rattle.levels.proofs.Adding.{wider, side-ranged, bound-within}
 use Rattle.rules.proofs.Giving.{side-reserved, height-yes, height-no}
 use borrow.Author.Needs.{needs}
 use Rattle.rules.proofs.findings.height_finding.Statement.{statement}

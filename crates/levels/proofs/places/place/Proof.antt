@@ -1,0 +1,38 @@
+-- `levels::places::place` gives y's place to e. Assumes nothing.
+use Rattle.tables.specs.Board.{board}
+use Rattle.levels.proofs.Placing.{placed-at}
+use borrow.Author.Needs.{needs}
+use Rattle.levels.proofs.places.place.Statement.{statement}
+use Rattle.levels.proofs.places.place.Tie as tie
+
+t-max-requires : tie.Need-t-max-requires
+t-max-requires c κs = search needs
+
+ahead-requires : tie.Need-ahead-requires
+ahead-requires c κs = search needs
+
+t-min-requires : tie.Need-t-min-requires
+t-min-requires c κs = search needs
+
+ahead-requires-2 : tie.Need-ahead-requires-2
+ahead-requires-2 c κs = search needs
+
+placed-requires : tie.Need-placed-requires
+placed-requires c κs = search needs
+
+returns : tie.Need-returns
+returns c =
+    let k = c .before .before .before .before in
+    let a = k .before .args in
+    placed-at (a .strict) (board (a .b .now)) (a .e) (a .u .0) (a .v .0) (a .y) (k .t-max .ensures) (c .before .before .before .ahead .ensures) (c .before .before .t-min .ensures) (c .before .ahead2 .ensures) (c .placed .ensures)
+
+pub place-spec : {M : Type 1} → statement M
+place-spec =
+    tie.close
+    (tie.spec
+    t-max-requires
+    ahead-requires
+    t-min-requires
+    ahead-requires-2
+    placed-requires
+    returns)

@@ -1,0 +1,177 @@
+// What an event adds, most before (by) e, and the sure part: the level loops.
+use crate::Place;
+use crate::places::ahead;
+use crate::places::placed;
+use crate::places::produces;
+use crate::places::side_h_max;
+use tables::Height;
+use tables::Reservoir;
+use tables::Time;
+use tables::t_max;
+use tables::t_min;
+ghost use mathlib.Core.Path.{_≡_};
+ghost use mathlib.Core.Bool.{cond};
+ghost use Prim.Native.Nat.{_<_};
+ghost use lib.IntN.{pos, _+ℤ_, _-ℤ_};
+ghost use Rattle.integers.specs.Range.{Within};
+ghost use Rattle.integers.specs.Sum.{sum};
+ghost use Rattle.model.specs.Job.{h-min, h-max};
+ghost use Rattle.model.specs.Levels.{gain, most-in, most, sure-part, side};
+ghost use Rattle.model.specs.Rules.{switch};
+ghost use Rattle.tables.specs.Board.{board};
+ghost use Rattle.levels.specs.Values.{place-of, reservoir-of, other-gains, Ranged, Reserved};
+
+// The sum of two amounts.
+pub fn plus(a: Height, b: Height) -> Height
+    requires { ⌜ Within (a .0) 10000000 × Within (b .0) 10000000 ⌝ }
+    ensures { λ r. ⌜ r .0 ≡ a .0 +ℤ b .0 ⌝ }
+{
+    let x = a.0;
+    let y = b.0;
+    Height(x + y)
+}
+
+// The difference of two amounts.
+pub fn minus(a: Height, b: Height) -> Height
+    requires { ⌜ Within (a .0) 10000000 × Within (b .0) 10000000 ⌝ }
+    ensures { λ r. ⌜ r .0 ≡ a .0 -ℤ b .0 ⌝ }
+{
+    let x = a.0;
+    let y = b.0;
+    Height(x - y)
+}
+
+// An amount, if it is counted.
+pub fn kept(counted: bool, h: Height) -> Height
+    ensures { λ r. ⌜ r .0 ≡ cond counted (h .0) (pos 0) ⌝ }
+{
+    if counted { h } else { Height(0) }
+}
+
+// What an event adds at most, with h for its h_max: where only possible, a delivery's.
+pub fn gain(p: Place, h: Height) -> Height
+    ensures { λ r. ⌜ r .0 ≡ gain (place-of p) (h .0) ⌝ }
+{
+    let made = produces(h);
+    kept(p.sure | p.possible & made, h)
+}
+
+// What event y, as another than e, adds to the level of e, whose time window is u..v, on a side.
+pub fn other_gain(b: &[i32; 256], m: bool, strict: bool, u: Time, v: Time, y: usize) -> Height
+    requires { ⌜ (y < 64) × Within (board (now b) y h-min) 9999 ⌝ }
+    ensures { λ r. ⌜ r .0 ≡ other-gains (switch strict) (side m (board (now (b .entry)))) (u .0) (v .0) y ⌝ }
+{
+    let surely = ahead(strict, t_max(b, y), u);
+    let possibly = ahead(strict, t_min(b, y), v);
+    let h = side_h_max(b, m, y);
+    gain(placed(false, strict, surely, possibly), h)
+}
+
+// What e adds to its own level.
+pub fn own_gain(b: &[i32; 256], m: bool, strict: bool, e: usize) -> Height
+    requires { ⌜ (e < 64) × Within (board (now b) e h-min) 9999 ⌝ }
+    ensures { λ r. ⌜ r .0 ≡ cond strict (pos 0) (side m (board (now (b .entry))) e h-max) ⌝ }
+{
+    if strict {
+        Height(0)
+    } else {
+        side_h_max(b, m, e)
+    }
+}
+
+// The opening stock.
+pub fn opening(c: Reservoir) -> Height
+    ensures { λ r. ⌜ r .0 ≡ c .initial .0 ⌝ }
+{
+    let q = c.initial;
+    q
+}
+
+// The opening stock and what all events add, e taken for another event: this loop has no test for e.
+fn sum_gains(
+    b: &[i32; 256],
+    n: usize,
+    c: Reservoir,
+    m: bool,
+    strict: bool,
+    u: Time,
+    v: Time,
+) -> Height
+    requires { ⌜ Ranged n (board (now b)) × Reserved (reservoir-of c) ⌝ }
+    ensures { λ r. ⌜ r .0 ≡ c .initial .0 +ℤ sum n (other-gains (switch strict) (side m (board (now (b .entry)))) (u .0) (v .0)) ⌝ }
+{
+    let mut total = opening(c);
+    let mut y: usize = 0;
+    while y < n {
+        let h = other_gain(b, m, strict, u, v, y);
+        total = plus(total, h);
+        y += 1;
+    }
+    total
+}
+
+// The same, with the side and before or by as literals at the loop, which is then one of four without tests of them.
+pub fn all_gains(
+    b: &[i32; 256],
+    n: usize,
+    c: Reservoir,
+    m: bool,
+    strict: bool,
+    u: Time,
+    v: Time,
+) -> Height
+    requires { ⌜ Ranged n (board (now b)) × Reserved (reservoir-of c) ⌝ }
+    ensures { λ r. ⌜ r .0 ≡ c .initial .0 +ℤ sum n (other-gains (switch strict) (side m (board (now (b .entry)))) (u .0) (v .0)) ⌝ }
+{
+    if m {
+        if strict {
+            sum_gains(b, n, c, true, true, u, v)
+        } else {
+            sum_gains(b, n, c, true, false, u, v)
+        }
+    } else {
+        if strict {
+            sum_gains(b, n, c, false, true, u, v)
+        } else {
+            sum_gains(b, n, c, false, false, u, v)
+        }
+    }
+}
+
+// Most before (by) e on a side, whose reservoir is c, with u..v for e's time window.
+pub fn most_in(
+    b: &[i32; 256],
+    n: usize,
+    c: Reservoir,
+    m: bool,
+    strict: bool,
+    e: usize,
+    u: Time,
+    v: Time,
+) -> Height
+    requires { ⌜ Ranged n (board (now b)) × Reserved (reservoir-of c) × (e < n) ⌝ }
+    ensures { λ r. ⌜ r .0 ≡ most-in (switch strict) n (reservoir-of c) (side m (board (now (b .entry)))) e (u .0) (v .0) ⌝ }
+{
+    let all = all_gains(b, n, c, m, strict, u, v);
+    let others = minus(all, other_gain(b, m, strict, u, v, e));
+    plus(others, own_gain(b, m, strict, e))
+}
+
+// Most before (by) e on a side.
+pub fn most(b: &[i32; 256], n: usize, c: Reservoir, m: bool, strict: bool, e: usize) -> Height
+    requires { ⌜ Ranged n (board (now b)) × Reserved (reservoir-of c) × (e < n) ⌝ }
+    ensures { λ r. ⌜ r .0 ≡ most (switch strict) n (reservoir-of c) (side m (board (now (b .entry)))) e ⌝ }
+{
+    let u = t_min(b, e);
+    let v = t_max(b, e);
+    most_in(b, n, c, m, strict, e, u, v)
+}
+
+// The surely-before (by) part with the opening stock: the level where e comes too early for any event to be possibly before (by) it.
+pub fn sure_part(b: &[i32; 256], n: usize, c: Reservoir, m: bool, strict: bool, e: usize) -> Height
+    requires { ⌜ Ranged n (board (now b)) × Reserved (reservoir-of c) × (e < n) ⌝ }
+    ensures { λ r. ⌜ r .0 ≡ sure-part (switch strict) n (reservoir-of c) (side m (board (now (b .entry)))) e ⌝ }
+{
+    let u = t_min(b, e);
+    most_in(b, n, c, m, strict, e, u, Time(-20001))
+}

@@ -1,0 +1,150 @@
+// Before and by, an event's place to e, delivery and pull, and the mirror: the leaves that compare and negate words.
+use crate::Place;
+use tables::Height;
+use tables::Reservoir;
+use tables::Time;
+use tables::h_max;
+use tables::h_min;
+use tables::t_max;
+use tables::t_min;
+ghost use mathlib.Core.Path.{_≡_};
+ghost use Prim.Native.Nat.{_<_};
+ghost use lib.IntN.{pos, negℤ, _+ℤ_, _-ℤ_};
+ghost use lib.Signed.{leZ, ltZ};
+ghost use Rattle.integers.specs.Range.{Within};
+ghost use Rattle.model.specs.Job.{h-min, h-max, produces, consumes};
+ghost use Rattle.model.specs.Levels.{ahead, placed, place, side, side-value, side-reservoir};
+ghost use Rattle.model.specs.Rules.{switch};
+ghost use Rattle.tables.specs.Board.{board};
+ghost use Rattle.levels.specs.Values.{place-of, reservoir-of, Reserved};
+
+pub fn earlier(a: Time, b: Time) -> bool
+    ensures { λ r. ⌜ r ≡ ltZ (a .0) (b .0) ⌝ }
+{
+    a.0 < b.0
+}
+
+pub fn no_later(a: Time, b: Time) -> bool
+    ensures { λ r. ⌜ r ≡ leZ (a .0) (b .0) ⌝ }
+{
+    a.0 <= b.0
+}
+
+pub fn below(a: Height, b: Height) -> bool
+    ensures { λ r. ⌜ r ≡ ltZ (a .0) (b .0) ⌝ }
+{
+    a.0 < b.0
+}
+
+pub fn at_most(a: Height, b: Height) -> bool
+    ensures { λ r. ⌜ r ≡ leZ (a .0) (b .0) ⌝ }
+{
+    a.0 <= b.0
+}
+
+// Before (strict) or by.
+pub fn ahead(strict: bool, a: Time, b: Time) -> bool
+    ensures { λ r. ⌜ r ≡ ahead strict (a .0) (b .0) ⌝ }
+{
+    if strict {
+        earlier(a, b)
+    } else {
+        no_later(a, b)
+    }
+}
+
+// The minute after.
+pub fn minute_after(t: Time) -> Time
+    requires { ⌜ Within (t .0) 20001 ⌝ }
+    ensures { λ r. ⌜ r .0 ≡ t .0 +ℤ pos 1 ⌝ }
+{
+    let x = t.0;
+    Time(x + 1)
+}
+
+// The minute before.
+pub fn minute_before(t: Time) -> Time
+    requires { ⌜ Within (t .0) 20001 ⌝ }
+    ensures { λ r. ⌜ r .0 ≡ t .0 -ℤ pos 1 ⌝ }
+{
+    let x = t.0;
+    Time(x - 1)
+}
+
+// A delivery.
+pub fn produces(h: Height) -> bool
+    ensures { λ r. ⌜ r ≡ produces (h .0) ⌝ }
+{
+    0 < h.0
+}
+
+// A pull.
+pub fn consumes(h: Height) -> bool
+    ensures { λ r. ⌜ r ≡ consumes (h .0) ⌝ }
+{
+    h.0 < 0
+}
+
+// Is it e itself; before or by; the test for surely; the test for possibly.
+pub fn placed(own: bool, strict: bool, surely: bool, possibly: bool) -> Place
+    ensures { λ r. ⌜ place-of r ≡ placed own strict surely possibly ⌝ }
+{
+    Place {
+        sure: own & !strict | !own & surely,
+        possible: !own & possibly,
+    }
+}
+
+// Where y stands to e, whose time window is u..v.
+pub fn place(b: &[i32; 256], strict: bool, e: usize, u: Time, v: Time, y: usize) -> Place
+    requires { ⌜ y < 64 ⌝ }
+    ensures { λ r. ⌜ place-of r ≡ place (switch strict) (board (now (b .entry))) e (u .0) (v .0) y ⌝ }
+{
+    let surely = ahead(strict, t_max(b, y), u);
+    let possibly = ahead(strict, t_min(b, y), v);
+    placed(y == e, strict, surely, possibly)
+}
+
+// The other sign.
+pub fn negated(h: Height) -> Height
+    requires { ⌜ Within (h .0) 10000000 ⌝ }
+    ensures { λ r. ⌜ r .0 ≡ negℤ (h .0) ⌝ }
+{
+    let x = h.0;
+    Height(-x)
+}
+
+// y's h_max on a side: the job as it stands, or its mirror.
+pub fn side_h_max(b: &[i32; 256], m: bool, y: usize) -> Height
+    requires { ⌜ (y < 64) × Within (board (now b) y h-min) 9999 ⌝ }
+    ensures { λ r. ⌜ r .0 ≡ side m (board (now (b .entry))) y h-max ⌝ }
+{
+    if m { negated(h_min(b, y)) } else { h_max(b, y) }
+}
+
+// An amount of a side read back.
+pub fn side_height(m: bool, h: Height) -> Height
+    requires { ⌜ Within (h .0) 10000000 ⌝ }
+    ensures { λ r. ⌜ r .0 ≡ side-value m h-min (h .0) ⌝ }
+{
+    if m { negated(h) } else { h }
+}
+
+// The reservoir of a side.
+pub fn side_reservoir(m: bool, c: Reservoir) -> Reservoir
+    requires { ⌜ Reserved (reservoir-of c) ⌝ }
+    ensures { λ r. ⌜ reservoir-of r ≡ side-reservoir m (reservoir-of c) ⌝ }
+{
+    if m {
+        let low = c.low;
+        let high = c.high;
+        let initial = c.initial;
+        Reservoir {
+            low: negated(high),
+            high: negated(low),
+            initial: negated(initial),
+        }
+    } else {
+        c
+    }
+}

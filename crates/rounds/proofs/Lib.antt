@@ -1,0 +1,3 @@
+pub mod Moves
+pub mod Trying
+pub mod Sparing

@@ -1,0 +1,100 @@
+-- `rounds::sweeps::events_from` goes through the events, and passes over those at which no rule does anything. The loop's invariant: what is left from e on is, from the start, the whole sweep; and d is the largest width. Assumes nothing.
+use mathlib.Core.Path.{_≡_}
+use mathlib.Core.List.{List}
+use mathlib.Core.Logic.{⊎-elim}
+use Prim.Native.Nat.{ℕ, _≤_, _-_, _+_}
+use native.Mathlib.Nat.{sub-zero}
+use native.Mathlib.Omega.{arith}
+use borrow.Author.Tests.{not-false}
+use lib.IntN.{ℤ}
+use lib.ListN.{length}
+use Rattle.integers.specs.Range.{Within}
+use Rattle.model.specs.Rounds.{State, events-from, event-rules}
+use Rattle.tables.specs.Board.{board}
+use Rattle.tables.specs.declared.Height.{Height}
+use Rattle.silence.specs.Calm.{spread-of}
+use Rattle.rules.proofs.Putting.{reserved}
+use Rattle.rounds.specs.State.{job-at}
+use Rattle.rounds.specs.declared.Progress.{Progress}
+use Rattle.rounds.proofs.Moves.{Going, going-start, going-on, going-end, events-more, events-done}
+use Rattle.rounds.proofs.Sparing.{event-passed, joined}
+use Rattle.rounds.proofs.sweeps.events_from.Statement.{statement}
+use Rattle.rounds.proofs.sweeps.events_from.Tie as tie
+
+abbrev Inv-loop : tie.InvT-loop
+Inv-loop b₀ lags k buffer₀ n q₀ d₀ e₀ b buffer q d e =
+    (e ≤ n)
+    × Going (k .events) (events-from (length buffer₀) (job-at k lags) e (n - e)) (events-from (length buffer₀) (job-at k lags) 0 n) b₀ buffer₀ q₀ b buffer q
+    × (d .0 ≡ spread-of n (board b))
+    × Within (d .0) 20000
+
+abbrev μ-loop : tie.MeasureT-loop
+μ-loop b₀ lags k buffer₀ n q₀ d₀ e₀ b buffer q d e = n - e
+
+spread-requires : tie.Need-spread-requires Inv-loop μ-loop
+spread-requires c κs = c .before .pre .1 .ranged
+
+loop-holds : tie.Need-loop-holds Inv-loop μ-loop
+loop-holds c = (omega arith, going-start (rw sub-zero) (c .before .before .pre .1), c .spread .ensures .0, c .spread .ensures .1)
+
+is-calm-requires : tie.Need-is-calm-requires Inv-loop μ-loop
+is-calm-requires c κs =
+    let s = c .before .before .before .before .before in
+    let l = c .before .before .loop in
+    (l .inv .1 .grown .held .ranged, reserved (s .pre .0), omega arith, l .inv .3)
+
+event-rules-requires : tie.Need-event-rules-requires Inv-loop μ-loop
+event-rules-requires c κs =
+    let l = c .before .before .before .before .before .before .loop in
+    (c .before .before .before .before .before .before .before .before .before .pre .0, l .inv .1 .grown .held, omega arith)
+
+spread-requires-2 : tie.Need-spread-requires-2 Inv-loop μ-loop
+spread-requires-2 c κs = c .before .before .event-rules .ensures .grown .held .ranged
+
+add-e : tie.Need-add-e Inv-loop μ-loop
+add-e c = omega arith
+
+loop-less : tie.Need-loop-less Inv-loop μ-loop
+loop-less c = omega arith
+
+loop-again : tie.Need-loop-again Inv-loop μ-loop
+loop-again c =
+    let s = c .before .before .before .before .before .before .before in
+    let a = s .args in
+    let l = c .before .before .before .before .loop in
+    let j = job-at (a .k) (a .lags .now) in
+    let n = a .k .events in
+    let Next : List ℤ → List ℤ → Progress → Height → Type 0 = λ b buffer q d. Inv-loop (a .b .now) (a .lags .now) (a .k) (a .buffer .now) n (a .p) (c .before .before .before .before .before .spread .result) 0 b buffer q d (l .e + 1) in
+    let more = events-more (length (a .buffer .now)) j (l .e) n (omega arith) in
+    let on : ℕ → State → State = λ room. event-rules room j (l .e) in
+    ⊎-elim
+    (λ w. joined Next (w .7) (w .8) (w .9) (w .10) (omega arith, going-on on more (l .inv .1) (w .3 .ensures), w .6 .ensures .0, w .6 .ensures .1))
+    (λ w. joined Next (w .1) (w .2) (w .3) (w .4)
+    (omega arith, going-on on more (l .inv .1) (event-passed (s .pre .0) (l .inv .1 .grown .held) (omega arith) (l .inv .2) (c .before .is-calm .ensures) (not-false (c .before .is-calm .result) (w .0 .left))), l .inv .2, l .inv .3))
+    (c .if1 .came)
+
+same-length : tie.Need-same-length Inv-loop μ-loop
+same-length c = c .before .loop .inv .1 .grown .same
+
+returns : tie.Need-returns Inv-loop μ-loop
+returns c =
+    let a = c .before .before .before .before .args in
+    let l = c .before .loop in
+    going-end (events-done (length (a .buffer .now)) (job-at (a .k) (a .lags .now)) (l .e) (a .k .events) (omega arith)) (l .inv .1)
+
+pub events-from-spec : {M : Type 1} → statement M
+events-from-spec =
+    tie.close
+    (tie.spec
+    Inv-loop
+    μ-loop
+    spread-requires
+    loop-holds
+    is-calm-requires
+    event-rules-requires
+    spread-requires-2
+    add-e
+    loop-less
+    loop-again
+    same-length
+    returns)

@@ -1,0 +1,28 @@
+// A round of the planner (propagator): one attempt, the attempts of a round in order.
+pub mod attempts; // attempts.rt: one attempt
+pub mod sweeps; // sweeps.rt: the attempts of a round in order
+
+use tables::Reservoir;
+use tables::Time;
+
+// The job: horizon, reservoir, number of events. The lag table is lent beside it.
+pub struct Job {
+    pub horizon: Time,
+    pub reservoir: Reservoir,
+    pub events: usize,
+}
+
+// How a call stands: it goes on, or has ended.
+pub enum Status {
+    Running,
+    Conflict,
+    Stopped,
+}
+
+// The list so far: words used, number of slips, where the last slip begins; how the call stands.
+pub struct Progress {
+    pub used: usize,
+    pub slips: usize,
+    pub last: usize,
+    pub status: Status,
+}

@@ -1,0 +1,2 @@
+pub mod Sparing
+pub mod Calming

@@ -1,0 +1,41 @@
+-- `silence::slack::may_move` tests an event as another than e. Assumes nothing.
+use borrow.Author.Needs.{needs}
+use Rattle.silence.proofs.slack.may_move.Statement.{statement}
+use Rattle.silence.proofs.slack.may_move.Tie as tie
+
+t-max-requires : tie.Need-t-max-requires
+t-max-requires c κs = search needs
+
+ahead-requires : tie.Need-ahead-requires
+ahead-requires c κs = search needs
+
+t-min-requires : tie.Need-t-min-requires
+t-min-requires c κs = search needs
+
+ahead-requires-2 : tie.Need-ahead-requires-2
+ahead-requires-2 c κs = search needs
+
+side-h-max-requires : tie.Need-side-h-max-requires
+side-h-max-requires c κs = search needs
+
+produces-requires : tie.Need-produces-requires
+produces-requires c κs = search needs
+
+is-spared-requires : tie.Need-is-spared-requires
+is-spared-requires c κs = search needs
+
+returns : tie.Need-returns
+returns c = cc
+
+pub may-move-spec : {M : Type 1} → statement M
+may-move-spec =
+    tie.close
+    (tie.spec
+    t-max-requires
+    ahead-requires
+    t-min-requires
+    ahead-requires-2
+    side-h-max-requires
+    produces-requires
+    is-spared-requires
+    returns)

@@ -1,0 +1,163 @@
+// Sums that show rules at an event to do nothing, so that they are passed over.
+use crate::slack::width;
+use levels::levels::kept;
+use levels::levels::most_in;
+use levels::levels::opening;
+use levels::levels::plus;
+use levels::places::at_most;
+use levels::places::below;
+use levels::places::earlier;
+use levels::places::no_later;
+use levels::places::produces;
+use levels::places::side_h_max;
+use levels::places::side_reservoir;
+use rules::lags::lag_event;
+use rules::lags::lag_lower;
+use rules::lags::lag_upper;
+use tables::Height;
+use tables::Reservoir;
+use tables::Time;
+use tables::t_max;
+use tables::t_min;
+ghost use mathlib.Core.Path.{_≡_};
+ghost use mathlib.Core.Bool.{cond};
+ghost use Prim.Native.Nat.{_<_};
+ghost use lib.IntN.{pos, natAbs, _+ℤ_};
+ghost use Rattle.integers.specs.Range.{Within};
+ghost use Rattle.integers.specs.Sum.{sum};
+ghost use Rattle.model.specs.Job.{t-min, t-max, h-min, h-max, produces};
+ghost use Rattle.model.specs.Levels.{side};
+ghost use Rattle.tables.specs.Board.{board};
+ghost use Rattle.levels.specs.Values.{reservoir-of, Ranged, Reserved};
+ghost use Rattle.rules.specs.Values.{lag-at, Lagged};
+ghost use Rattle.silence.specs.Calm.{reaches-early, floor-gain, floor-of, larger, spread-of, floored, calm, lag-kept};
+
+// ---- rules 3 and 4
+
+// Does e's level reach the limit already with e at its earliest minute?
+pub fn reaches_early(
+    b: &[i32; 256],
+    n: usize,
+    c: Reservoir,
+    m: bool,
+    strict: bool,
+    e: usize,
+) -> bool
+    requires { ⌜ Ranged n (board (now b)) × Reserved (reservoir-of c) × (e < n) ⌝ }
+    ensures { λ r. ⌜ r ≡ reaches-early m strict n (reservoir-of c) (board (now (b .entry))) e ⌝ }
+{
+    let u = t_min(b, e);
+    let v = t_max(b, e);
+    let d = side_reservoir(m, c);
+    let level = most_in(b, n, d, m, strict, e, u, u);
+    let low = d.low;
+    let ordered = no_later(u, v);
+    let reached = at_most(low, level);
+    ordered & reached
+}
+
+// ---- rules 3 to 14
+
+// What y adds at least: a delivery that begins before u, all else that ends by u.
+fn floor_gain(b: &[i32; 256], m: bool, u: Time, y: usize) -> Height
+    requires { ⌜ (y < 64) × Within (board (now b) y h-min) 9999 ⌝ }
+    ensures { λ r. ⌜ r .0 ≡ floor-gain (side m (board (now (b .entry)))) (u .0) y ⌝ }
+{
+    let early = earlier(t_min(b, y), u);
+    let gone = no_later(t_max(b, y), u);
+    let h = side_h_max(b, m, y);
+    let made = produces(h);
+    kept(made & early | !made & gone, h)
+}
+
+// The opening stock and what all events add at least.
+fn floor_gains(b: &[i32; 256], n: usize, c: Reservoir, m: bool, u: Time) -> Height
+    requires { ⌜ Ranged n (board (now b)) × Reserved (reservoir-of c) ⌝ }
+    ensures { λ r. ⌜ r .0 ≡ c .initial .0 +ℤ sum n (floor-gain (side m (board (now (b .entry)))) (u .0)) ⌝ }
+{
+    let mut total = opening(c);
+    let mut y: usize = 0;
+    while y < n {
+        let h = floor_gain(b, m, u, y);
+        total = plus(total, h);
+        y += 1;
+    }
+    total
+}
+
+// e's own amount where it takes.
+fn own_floor(b: &[i32; 256], m: bool, e: usize) -> Height
+    requires { ⌜ (e < 64) × Within (board (now b) e h-min) 9999 ⌝ }
+    ensures { λ r. ⌜ r .0 ≡ cond (produces (side m (board (now (b .entry))) e h-max)) (pos 0) (side m (board (now (b .entry))) e h-max) ⌝ }
+{
+    let h = side_h_max(b, m, e);
+    if produces(h) { Height(0) } else { h }
+}
+
+// Does the floor lie over the limit by d?
+fn is_floored(b: &[i32; 256], n: usize, c: Reservoir, m: bool, e: usize, d: Height) -> bool
+    requires { ⌜ Ranged n (board (now b)) × Reserved (reservoir-of c) × (e < n) × Within (d .0) 20000 ⌝ }
+    ensures { λ r. ⌜ r ≡ floored m n (reservoir-of c) (board (now (b .entry))) e (d .0) ⌝ }
+{
+    let s = side_reservoir(m, c);
+    let all = floor_gains(b, n, s, m, t_min(b, e));
+    let floor = plus(all, own_floor(b, m, e));
+    let low = s.low;
+    at_most(plus(low, d), floor)
+}
+
+// Does it do so on both sides?
+pub fn is_calm(b: &[i32; 256], n: usize, c: Reservoir, e: usize, d: Height) -> bool
+    requires { ⌜ Ranged n (board (now b)) × Reserved (reservoir-of c) × (e < n) × Within (d .0) 20000 ⌝ }
+    ensures { λ r. ⌜ r ≡ calm n (reservoir-of c) (board (now (b .entry))) e (d .0) ⌝ }
+{
+    if is_floored(b, n, c, false, e, d) {
+        let floored = is_floored(b, n, c, true, e, d);
+        let ordered = no_later(t_min(b, e), t_max(b, e));
+        floored & ordered
+    } else {
+        false
+    }
+}
+
+fn larger(a: Height, w: Height) -> Height
+    ensures { λ r. ⌜ r .0 ≡ larger (a .0) (w .0) ⌝ }
+{
+    if below(a, w) { w } else { a }
+}
+
+// The largest width of an amount window, at least 0.
+pub fn spread(b: &[i32; 256], n: usize) -> Height
+    requires { ⌜ Ranged n (board (now b)) ⌝ }
+    ensures { λ r. ⌜ (r .0 ≡ spread-of n (board (now (b .entry)))) × Within (r .0) 20000 ⌝ }
+{
+    let mut widest = Height(0);
+    let mut y: usize = 0;
+    while y < n {
+        widest = larger(widest, width(b, y));
+        y += 1;
+    }
+    widest
+}
+
+// ---- rules 1 and 2
+
+// Do rules 1 and 2 of lag g leave both windows as they are?
+pub fn is_kept(b: &[i32; 256], lags: &[i32], g: usize) -> bool
+    requires { ⌜
+        Lagged 64 (now lags) g
+        × Within (board (now b) (natAbs (lag-at (now lags) g 0)) t-min) 20000
+        × Within (board (now b) (natAbs (lag-at (now lags) g 1)) t-max) 20000
+        ⌝ }
+    ensures { λ r. ⌜ r ≡ lag-kept (now (lags .entry)) (board (now (b .entry))) g ⌝ }
+{
+    let first = lag_event(lags, g, 0);
+    let second = lag_event(lags, g, 1);
+    let upper = lag_upper(b, lags, g);
+    let lower = lag_lower(b, lags, g);
+    let starts = no_later(t_min(b, first), upper);
+    let ends = no_later(t_max(b, first), upper);
+    let late = no_later(lower, t_max(b, second));
+    let early = no_later(lower, t_min(b, second));
+    (starts & ends) & (late & early)
+}

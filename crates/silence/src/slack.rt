@@ -1,0 +1,134 @@
+// What a level leaves over its limit, and whether a target of rules 5, 8, 11 and 14 can be moved by it.
+use levels::levels::minus;
+use levels::levels::most;
+use levels::places::ahead;
+use levels::places::at_most;
+use levels::places::produces;
+use levels::places::side_h_max;
+use levels::places::side_reservoir;
+use rules::bounds::is_target;
+use tables::Height;
+use tables::Reservoir;
+use tables::Time;
+use tables::h_max;
+use tables::h_min;
+use tables::t_max;
+use tables::t_min;
+ghost use mathlib.Core.Path.{_≡_};
+ghost use mathlib.Core.Bool.{cond};
+ghost use Prim.Native.Nat.{_<_, _≤_};
+ghost use lib.IntN.{_-ℤ_};
+ghost use Rattle.integers.specs.Range.{Within};
+ghost use Rattle.model.specs.Job.{h-min, h-max};
+ghost use Rattle.tables.specs.Board.{board};
+ghost use Rattle.levels.specs.Values.{reservoir-of, Ranged, Reserved};
+ghost use Rattle.silence.specs.Slack.{slack-of, spares, moves, may-move, count, some-move};
+
+// Most before (by) e less Lmin, on a side.
+pub fn slack(b: &[i32; 256], n: usize, c: Reservoir, m: bool, strict: bool, e: usize) -> Height
+    requires { ⌜ Ranged n (board (now b)) × Reserved (reservoir-of c) × (e < n) ⌝ }
+    ensures { λ r. ⌜ r .0 ≡ slack-of m strict n (reservoir-of c) (board (now (b .entry))) e ⌝ }
+{
+    let d = side_reservoir(m, c);
+    let level = most(b, n, d, m, strict, e);
+    let low = d.low;
+    minus(level, low)
+}
+
+// The width of y's amounts.
+pub fn width(b: &[i32; 256], y: usize) -> Height
+    requires { ⌜ (y < 64) × Within (board (now b) y h-min) 9999 × Within (board (now b) y h-max) 9999 ⌝ }
+    ensures { λ r. ⌜ r .0 ≡ board (now (b .entry)) y h-max -ℤ board (now (b .entry)) y h-min ⌝ }
+{
+    let high = h_max(b, y);
+    let low = h_min(b, y);
+    minus(high, low)
+}
+
+// Does the slack k leave y's amounts as they are?
+pub fn is_spared(b: &[i32; 256], y: usize, k: Height) -> bool
+    requires { ⌜ (y < 64) × Within (board (now b) y h-min) 9999 × Within (board (now b) y h-max) 9999 ⌝ }
+    ensures { λ r. ⌜ r ≡ spares (k .0) (board (now (b .entry)) y h-min) (board (now (b .entry)) y h-max) ⌝ }
+{
+    let over = at_most(Height(0), k);
+    let narrow = at_most(width(b, y), k);
+    over & narrow
+}
+
+// Is y a target at e that the slack k does not spare?
+pub fn is_moved(b: &[i32; 256], m: bool, strict: bool, e: usize, k: Height, y: usize) -> bool
+    requires { ⌜ (e < 64) × (y < 64) × Within (board (now b) y h-min) 9999 × Within (board (now b) y h-max) 9999 ⌝ }
+    ensures { λ r. ⌜ r ≡ moves m strict (board (now (b .entry))) e (k .0) y ⌝ }
+{
+    if is_spared(b, y, k) {
+        false
+    } else {
+        is_target(b, m, strict, e, y)
+    }
+}
+
+// The same of y as another event than e, whose time window is u..v; neutral events are let pass.
+fn may_move(b: &[i32; 256], m: bool, strict: bool, u: Time, v: Time, k: Height, y: usize) -> bool
+    requires { ⌜ (y < 64) × Within (board (now b) y h-min) 9999 × Within (board (now b) y h-max) 9999 ⌝ }
+    ensures { λ r. ⌜ r ≡ may-move m strict (board (now (b .entry))) (u .0) (v .0) (k .0) y ⌝ }
+{
+    let surely = ahead(strict, t_max(b, y), u);
+    let possibly = ahead(strict, t_min(b, y), v);
+    let made = produces(side_h_max(b, m, y));
+    let spared = is_spared(b, y, k);
+    !spared & (surely | possibly & made)
+}
+
+fn one(t: bool) -> u32
+    ensures { λ r. ⌜ (r ≡ cond t 1 0) × (r ≤ 1) ⌝ }
+{
+    if t { 1 } else { 0 }
+}
+
+// How many events, e taken for another event, may be moved: this loop has no branch and no test for e.
+fn tally_moves(b: &[i32; 256], n: usize, m: bool, strict: bool, u: Time, v: Time, k: Height) -> u32
+    requires { ⌜ Ranged n (board (now b)) ⌝ }
+    ensures { λ r. ⌜ (r ≡ count n (may-move m strict (board (now (b .entry))) (u .0) (v .0) (k .0))) × (r ≤ 64) ⌝ }
+{
+    let mut total: u32 = 0;
+    let mut y: usize = 0;
+    while y < n {
+        let t = may_move(b, m, strict, u, v, k, y);
+        total += one(t);
+        y += 1;
+    }
+    total
+}
+
+// The same, with the side and before or by as literals at the loop.
+fn count_moves(b: &[i32; 256], n: usize, m: bool, strict: bool, u: Time, v: Time, k: Height) -> u32
+    requires { ⌜ Ranged n (board (now b)) ⌝ }
+    ensures { λ r. ⌜ (r ≡ count n (may-move m strict (board (now (b .entry))) (u .0) (v .0) (k .0))) × (r ≤ 64) ⌝ }
+{
+    if m {
+        if strict {
+            tally_moves(b, n, true, true, u, v, k)
+        } else {
+            tally_moves(b, n, true, false, u, v, k)
+        }
+    } else {
+        if strict {
+            tally_moves(b, n, false, true, u, v, k)
+        } else {
+            tally_moves(b, n, false, false, u, v, k)
+        }
+    }
+}
+
+// May some target at e be moved by the slack k?
+pub fn is_any_moved(b: &[i32; 256], n: usize, m: bool, strict: bool, e: usize, k: Height) -> bool
+    requires { ⌜ Ranged n (board (now b)) × (e < n) ⌝ }
+    ensures { λ r. ⌜ r ≡ some-move m strict n (board (now (b .entry))) e (k .0) ⌝ }
+{
+    let u = t_min(b, e);
+    let v = t_max(b, e);
+    let all = count_moves(b, n, m, strict, u, v, k);
+    let own = one(may_move(b, m, strict, u, v, k, e));
+    let spared = is_spared(b, e, k);
+    (own < all) | !strict & !spared
+}

@@ -1,0 +1,3 @@
+pub mod Filling
+pub mod Wording
+pub mod Sizing
