@@ -1,5 +1,5 @@
 # make run       prove and build the program, and run it on examples/worked.txt (JOB=file for another)
-# make gate      the second program, then everything proved from nothing; the last line is "N passed, 0 failed"
+# make gate      everything proved from nothing, then the second program; the last line is "N passed, 0 failed"
 # make bench     prove and build the static library, and time planner and reader beside the second program
 # make prove     prove what has changed since the last run
 # make format    lay out every source file
