@@ -4,7 +4,7 @@ use second::gen_jobs::RawJob;
 use second::job::{Settings, AMOUNT_BOUND, HORIZON_BOUND, MAX_EVENTS, MAX_LAGS};
 use second::rng::Rng;
 
-fn job(limits: (i32, i32), horizon: i64, windows: Vec<i32>, lags: Vec<i32>) -> RawJob {
+pub fn job(limits: (i32, i32), horizon: i64, windows: Vec<i32>, lags: Vec<i32>) -> RawJob {
     RawJob {
         settings: Settings {
             horizon: horizon as i32,

@@ -1,45 +1,90 @@
 //! Times of the proved planner and reader beside the second program's: the
 //! same jobs, in one process, by turns, best of many. Before a job is timed,
-//! both sides must give the same answer, windows and list.
+//! both sides must give the same answer, windows and list. The target is what a
+//! tuned program, kept apart, needs: a fraction of the second program's time.
 
 mod calls;
+mod families;
 mod jobs;
 
 use std::hint::black_box;
 use std::time::{Duration, Instant};
 
 use calls::{Answer, CONFLICT, OPEN, SETTLED, STOPPED};
+use families::Amounts;
 use second::gen_jobs::RawJob;
 use second::job::MAX_ROOM;
 
 /// Each case is run for so long, and at least so many times.
-const TIME_FOR_CASE: Duration = Duration::from_millis(3000);
-const LEAST_RUNS: usize = 10;
+const TIME_FOR_CASE: Duration = Duration::from_secs(2);
+const LEAST_RUNS: usize = 3;
 
 /// What every buffer word holds before a call.
 const JUNK: i32 = -777;
 
 fn main() {
     println!(
-        "| {:<42} | {:<8} | {:>7} | {:>7} | {:>8} | {:>13} | {:>13} | {:>6} |",
-        "case", "outcome", "slips", "rounds", "words", "proved, ns", "second, ns", "ratio"
+        "| {:<44} | {:<8} | {:>6} | {:>6} | {:>7} | {:>13} | {:>11} | {:>6} | {:>11} | {:>15} |",
+        "case",
+        "outcome",
+        "slips",
+        "rounds",
+        "words",
+        "proved, ns",
+        "second, ns",
+        "ratio",
+        "target, ns",
+        "proved / target"
     );
-    println!("|---|---|---:|---:|---:|---:|---:|---:|");
+    println!("|---|---|---:|---:|---:|---:|---:|---:|---:|---:|");
 
-    time_plan("plan: silent round, 64 events", &jobs::silent());
-    time_plan("plan: the same, tight limits", &jobs::tight());
+    time_plan(
+        "plan: silent round, 64 events",
+        &jobs::silent(),
+        Some(0.142),
+    );
+    time_plan("plan: the same, tight limits", &jobs::tight(), None);
 
     let dense = jobs::dense();
-    let settled = time_plan("plan: dense, 64 events, 256 lags", &dense);
-    time_plan("plan: one silent round on it, once settled", &settled);
+    let settled = time_plan("plan: dense, 64 events, 256 lags", &dense, None);
+    time_plan("plan: one silent round on it, once settled", &settled, None);
     time_read("read: the dense job's list", &dense);
 
     let two = jobs::creep(0);
-    time_plan("plan: two lags at odds by 1, H 20,000", &two);
+    time_plan("plan: two lags at odds by 1, H 20,000", &two, None);
     time_read("read: its list", &two);
     let five = jobs::creep(3);
-    time_plan("plan: the same with three followers", &five);
+    time_plan("plan: the same with three followers", &five, None);
     time_read("read: its list", &five);
+
+    let creep = families::creep(Amounts::Fixed);
+    time_plan(
+        "plan: creep, 64 events, the pair neutral",
+        &creep,
+        Some(0.0145),
+    );
+    let creep = families::creep(Amounts::Wide);
+    time_plan(
+        "plan: creep, amounts wide, limits slack",
+        &creep,
+        Some(0.079),
+    );
+    let creep = families::tight_creep();
+    time_plan(
+        "plan: creep, amounts wide, limits tight",
+        &creep,
+        Some(0.139),
+    );
+
+    let chase = families::chase();
+    time_plan("plan: chase, room 1,000,000", &chase, Some(0.33));
+    time_plan_in(16_000, "plan: chase, room 16,000", &chase, Some(0.41));
+    for seed in families::PLAN_SEEDS {
+        let name = format!("plan: hidden plan, seed {seed}");
+        time_plan(&name, &families::hidden_plan(seed), Some(0.21));
+    }
+    let open = families::open_amounts();
+    time_plan("plan: open amounts, small cage", &open, Some(0.23));
 }
 
 /// The time that a call alone took.
@@ -62,7 +107,14 @@ fn best(mut proved: impl FnMut() -> Duration, mut second: impl FnMut() -> Durati
     least.map(|time| time.as_nanos() as f64)
 }
 
-fn print_row(name: &str, answer: Answer, counts: [String; 3], [proved, second]: [f64; 2]) {
+/// A row: the target is a fraction of the second program's time.
+fn print_row(
+    name: &str,
+    answer: Answer,
+    counts: [String; 3],
+    [proved, second]: [f64; 2],
+    fraction: Option<f64>,
+) {
     let outcome = match (answer.number, answer.words[1]) {
         (0, SETTLED) => "settled",
         (0, CONFLICT) => "conflict",
@@ -72,15 +124,23 @@ fn print_row(name: &str, answer: Answer, counts: [String; 3], [proved, second]: 
     };
     let [slips, rounds, length] = counts;
     let ratio = proved / second;
+    let target = fraction.map(|part| part * second);
+    let aim = target.map_or(String::new(), |target| format!("{target:.0}"));
+    let reached = target.map_or(String::new(), |target| format!("{:.2}", proved / target));
     println!(
-        "| {name:<42} | {outcome:<8} | {slips:>7} | {rounds:>7} | {length:>8} | {proved:>13} | {second:>13} | {ratio:>6.2} |"
+        "| {name:<44} | {outcome:<8} | {slips:>6} | {rounds:>6} | {length:>7} | {proved:>13} | {second:>11} | {ratio:>6.2} | {aim:>11} | {reached:>15} |"
     );
 }
 
+/// Times the planner on a job with all the room that there can be.
+fn time_plan(name: &str, job: &RawJob, fraction: Option<f64>) -> RawJob {
+    time_plan_in(MAX_ROOM, name, job, fraction)
+}
+
 /// Times the planner on a job; the job as the call leaves it.
-fn time_plan(name: &str, job: &RawJob) -> RawJob {
+fn time_plan_in(room: usize, name: &str, job: &RawJob, fraction: Option<f64>) -> RawJob {
     let mut windows = [job.windows.clone(), job.windows.clone()];
-    let mut lists = [vec![JUNK; MAX_ROOM], vec![JUNK; MAX_ROOM]];
+    let mut lists = [vec![JUNK; room], vec![JUNK; room]];
     let answer = calls::proved_plan(job, &mut windows[0], &mut lists[0]);
     let other = calls::second_plan(job, &mut windows[1], &mut lists[1]);
     assert_eq!(answer, other, "{name}: the answers differ");
@@ -104,7 +164,7 @@ fn time_plan(name: &str, job: &RawJob) -> RawJob {
     );
     let [_, _, slips, rounds, length] = answer.words;
     let counts = [slips, rounds, length].map(|count| count.to_string());
-    print_row(name, answer, counts, times);
+    print_row(name, answer, counts, times, fraction);
     left
 }
 
@@ -139,5 +199,5 @@ fn time_read(name: &str, job: &RawJob) {
         },
     );
     let counts = [slips.to_string(), "-".to_string(), length.to_string()];
-    print_row(name, answer, counts, times);
+    print_row(name, answer, counts, times, None);
 }
