@@ -18,9 +18,10 @@ use Rattle.model.specs.Facts.{any, first-late, last-early, left-out, surely-con
 use Rattle.model.specs.Reader.{is-narrowing}
 use Rattle.levels.specs.Values.{place-by, span}
 use Rattle.rules.specs.Values.{family-of, effect-of, suits, is-time, lag-at, job-of}
-use Rattle.facts.specs.Quotes.{is-late, is-early, Any, cites-height, cites-of, says-of, spared, FamilyCites, LagCites, Cites}
+use Rattle.facts.specs.Quotes.{is-late, is-early, Any, cites-height, cites-of, says-of, spared, FamilyCites, LagCites, Cites, Quotes}
 use Rattle.rules.specs.declared.Effect.{Effect as Done}
 use Rattle.facts.specs.declared.Citing.{Citing}
+use Rattle.facts.specs.declared.Quoted.{Quoted}
 use Rattle.tables.specs.declared.Time.{Time}
 use Rattle.levels.proofs.Placing.{place-side, side-early, side-late}
 
@@ -44,6 +45,69 @@ module _ (m strict : Bool) (W : Windows) (e : ℕ) (u v : ℤ) (y : ℕ) {p : Pl
 
   pub targeted-at : {r : Bool} → r ≡ targeted p h → r ≡ targeted (place (switch strict) (side m W) e u v y) (side m W y h-max)
   targeted-at q = let k = place-side m (switch strict) W e u v y in cc
+
+-- ---- another event of a reservoir rule's slip
+or-false : (b : Bool) → (b || false) ≡ b
+or-false true = refl
+or-false false = refl
+
+made-lower : (s p : Bool) (h : ℤ) → produces h ≡ true → not (s || p) ≡ left-out (place-by s p) h
+made-lower true p h e = refl
+made-lower false true h e = refl
+made-lower false false h e = sym e
+
+made-upper : (s p : Bool) (h : ℤ) → produces h ≡ true → false ≡ surely-consumed (place-by s p) h
+made-upper true p h e = let t : consumes h ≡ false = omega ints in sym t
+made-upper false true h e = refl
+made-upper false false h e = refl
+
+made-height : (s p : Bool) (h : ℤ) → produces h ≡ true → (s || p) ≡ targeted (place-by s p) h
+made-height true p h e = let t : consumes h ≡ false = omega ints in rw (t, e)
+made-height false true h e = sym e
+made-height false false h e = refl
+
+taken-lower : (s p : Bool) (h : ℤ) → produces h ≡ false → false ≡ left-out (place-by s p) h
+taken-lower true p h e = refl
+taken-lower false true h e = refl
+taken-lower false false h e = sym e
+
+taken-height : (s p : Bool) (h : ℤ) → produces h ≡ false → surely-consumed (place-by s p) h ≡ targeted (place-by s p) h
+taken-height true p h e = rw e (sym (or-false (consumes h)))
+taken-height false true h e = sym e
+taken-height false false h e = refl
+
+module _
+    (q : Citing) (W : Windows) (z : ℕ) (rule : q .level ≡ true) (not-lower : z ≡ q .lower → ⊥) (not-upper : z ≡ q .upper → ⊥) (s p : Bool) (h : ℤ)
+    (at : place-by s p ≡ place (switch (q .strict)) W (q .lower) (q .from .0) (q .to .0) z) (high : h ≡ side (q .mirror) W z h-max)
+  where
+    lower-other : cites-of q W z t-min ≡ left-out (place-by s p) h
+    lower-other = rw (rule, place-side (q .mirror), ← at, ← high, ne-eqb z (q .lower) not-lower)
+
+    upper-other : cites-of q W z t-max ≡ surely-consumed (place-by s p) h
+    upper-other = rw (rule, place-side (q .mirror), ← at, ← high, ne-eqb z (q .lower) not-lower, ne-eqb z (q .upper) not-upper)
+
+    height-other : cites-height q W z ≡ (not (q .spares && eqb z (q .target)) && targeted (place-by s p) h)
+    height-other = rw (rule, place-side (q .mirror), ← at, ← high)
+
+    pub quotes-made : {t : Bool} → t ≡ produces h → t ≡ true →
+        Quotes q W z (record { lower = not (s || p); upper = false; height = not (q .spares && eqb z (q .target)) && (s || p) })
+    quotes-made a b =
+        let e : produces h ≡ true = sym a ∙ b in
+        record {
+          lower = made-lower s p h e ∙ sym lower-other;
+          upper = made-upper s p h e ∙ sym upper-other;
+          height = rw (made-height s p h e) (sym height-other);
+        }
+
+    pub quotes-taken : {t r : Bool} → t ≡ produces h → t ≡ false → r ≡ surely-consumed (place-by s p) h →
+        Quotes q W z (record { lower = false; upper = r; height = not (q .spares && eqb z (q .target)) && r })
+    quotes-taken a b k =
+        let e : produces h ≡ false = sym a ∙ b in
+        record {
+          lower = taken-lower s p h e ∙ sym lower-other;
+          upper = k ∙ sym upper-other;
+          height = rw (k, taken-height s p h e) (sym height-other);
+        }
 
 -- ---- over all events
 pub any-none : (p : ℕ → Bool) → false ≡ any 0 p
@@ -83,10 +147,6 @@ drops-spared height (narrows v) y z = refl
 drops-spared height fails y z = refl
 
 -- ---- a reservoir rule's slip
-or-false : (b : Bool) → (b || false) ≡ b
-or-false true = refl
-or-false false = refl
-
 -- e's own fact, or another's.
 own-or : (t a b : Bool) → ((t && a) || (true && (not t && b))) ≡ cond t a (not t && b)
 own-or true a b = or-false a

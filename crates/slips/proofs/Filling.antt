@@ -1,12 +1,13 @@
 -- A slip's facts counted and appended to a buffer, as `slips::writing` does it.
 -- Assumes nothing.
 use mathlib.Core.Path.{_≡_, refl, sym, ap, ap₂, subst, _∙_}
-use mathlib.Core.Bool.{Bool, true, false, not, cond, _&&_}
+use mathlib.Core.Bool.{Bool, true, false, not, cond, _&&_, _||_}
 use mathlib.Core.List.{List, [], _∷_, _++_, append-assoc, append-nil}
 use Prim.Native.Nat.{ℕ, zero, suc, _+_, _*_, _-_, _<_, _≤_}
 use native.Mathlib.Omega.{arith}
 use native.Mathlib.Numerals.{add-one}
-use lib.Dec.{T}
+use borrow.Author.Tests.{eq-eqb, ne-eqb}
+use lib.Dec.{T, eqb}
 use lib.IntN.{ℤ, pos}
 use lib.ListN.{length, take, set, length-append, length-set}
 use mir.Val.{boolByte}
@@ -181,6 +182,90 @@ module _ (q : Citing) (W : Windows) where
   pub words-start : (at : ℕ) (d : List ℤ) → Appended at (premise-words (premise-list 0 (cites-of q W) (says-of q W))) d d at
   unfolding premise-words
   words-start at d = rw (← premises-none) (appended-none at d)
+
+-- ---- a lag's slip: the facts of two events
+pub not-true : (t : Bool) → not t ≡ true → t ≡ false
+not-true t e = sym (not-not t) ∙ ap not e
+  where
+    not-not : (b : Bool) → not (not b) ≡ b
+    not-not true = refl
+    not-not false = refl
+
+module _ (q : Citing) (W : Windows) where
+  listed-more : (z : ℕ) → premise-words (premise-list (z + 1) (cites-of q W) (says-of q W)) ≡ premise-words (premise-list z (cites-of q W) (says-of q W)) ++ premise-words (premises-of q W z)
+  listed-more z = rw (premises-more q W z) (words-append (premise-list z (cites-of q W) (says-of q W)) (premises-of q W z))
+
+  -- Events without facts add no words.
+  listed-same : (a k : ℕ) → ((z : ℕ) → a ≤ z → z < a + k → premise-words (premises-of q W z) ≡ []) →
+      premise-words (premise-list (a + k) (cites-of q W) (says-of q W)) ≡ premise-words (premise-list a (cites-of q W) (says-of q W))
+  listed-same a zero h = let e : a + 0 ≡ a = omega arith in rw e
+  listed-same a (suc k) h =
+      let e : a + suc k ≡ a + k + 1 = omega arith in
+      rw (e, listed-more (a + k), h (a + k) (omega arith) (omega arith)) (append-nil (premise-words (premise-list (a + k) (cites-of q W) (says-of q W))) ∙ listed-same a k (λ z l m. h z l (omega arith)))
+
+  listed-nothing : premise-words (premise-list 0 (cites-of q W) (says-of q W)) ≡ []
+  unfolding premise-words
+  listed-nothing = rw (← premises-none q W)
+
+  listed-two : (i j n : ℕ) → i < j → j < n → ((z : ℕ) → (z ≡ i → ⊥) → (z ≡ j → ⊥) → premise-words (premises-of q W z) ≡ []) →
+      premise-words (premise-list n (cites-of q W) (says-of q W)) ≡ premise-words (premises-of q W i) ++ premise-words (premises-of q W j)
+  listed-two i j n l m h =
+      let a : i + 1 + (j - (i + 1)) ≡ j = omega arith in
+      let b : j + 1 + (n - (j + 1)) ≡ n = omega arith in
+      let o : 0 + i ≡ i = omega arith in
+      let first = rw o at (listed-same 0 i (λ z f g. h z (λ e. omega arith) (λ e. omega arith))) in
+      let between = rw a at (listed-same (i + 1) (j - (i + 1)) (λ z f g. h z (λ e. omega arith) (λ e. omega arith))) in
+      let last = rw b at (listed-same (j + 1) (n - (j + 1)) (λ z f g. h z (λ e. omega arith) (λ e. omega arith))) in
+      let start : premise-words (premise-list i (cites-of q W) (says-of q W)) ≡ [] = first ∙ listed-nothing in
+      last ∙ listed-more j ∙ ap (λ (l : List ℤ). l ++ premise-words (premises-of q W j)) (between ∙ listed-more i ∙ ap (λ (l : List ℤ). l ++ premise-words (premises-of q W i)) start)
+
+  module _ (lag : q .level ≡ false) (apart : q .lower ≡ q .upper → ⊥) where
+    lag-words : (z : ℕ) → premise-words (premises-of q W z)
+        ≡ words-if ((eqb z (q .lower) && q .starts) || false) z 1 (says-of q W z t-min) ++ (words-if ((eqb z (q .upper) && q .ends) || false) z 2 (says-of q W z t-max) ++ [])
+    lag-words z = event-words q W z ∙ rw lag
+
+    lag-none : (z : ℕ) → (z ≡ q .lower → ⊥) → (z ≡ q .upper → ⊥) → premise-words (premises-of q W z) ≡ []
+    lag-none z l u = lag-words z ∙ rw (ne-eqb z (q .lower) l, ne-eqb z (q .upper) u)
+
+    plain : (t : Bool) (y k : ℕ) (v : ℤ) → words-if (t || false) y k v ≡ words-if t y k v
+    plain true y k v = refl
+    plain false y k v = refl
+
+    lag-lower : premise-words (premises-of q W (q .lower)) ≡ words-if (q .starts) (q .lower) 1 (q .from .0)
+    lag-lower =
+        lag-words (q .lower)
+        ∙ rw (eq-eqb (q .lower) (q .lower) refl, ne-eqb (q .lower) (q .upper) apart) (append-nil (words-if (q .starts || false) (q .lower) 1 (q .from .0)) ∙ plain (q .starts) (q .lower) 1 (q .from .0))
+
+    lag-upper : premise-words (premises-of q W (q .upper)) ≡ words-if (q .ends) (q .upper) 2 (q .to .0)
+    lag-upper =
+        lag-words (q .upper)
+        ∙ rw (eq-eqb (q .upper) (q .upper) refl, ne-eqb (q .upper) (q .lower) (λ e. apart (sym e))) (append-nil (words-if (q .ends || false) (q .upper) 2 (q .to .0)) ∙ plain (q .ends) (q .upper) 2 (q .to .0))
+
+  pub lower-first : {n : ℕ} → q .level ≡ false → q .lower < q .upper → q .upper < n →
+      premise-words (premise-list n (cites-of q W) (says-of q W)) ≡ words-if (q .starts) (q .lower) 1 (q .from .0) ++ words-if (q .ends) (q .upper) 2 (q .to .0)
+  lower-first {n} g l m =
+      let apart : q .lower ≡ q .upper → ⊥ = λ e. omega arith in
+      listed-two (q .lower) (q .upper) n l m (lag-none g apart) ∙ rw (lag-lower g apart, lag-upper g apart)
+
+  pub upper-first : {n : ℕ} → q .level ≡ false → q .upper < q .lower → q .lower < n →
+      premise-words (premise-list n (cites-of q W) (says-of q W)) ≡ words-if (q .ends) (q .upper) 2 (q .to .0) ++ words-if (q .starts) (q .lower) 1 (q .from .0)
+  upper-first {n} g l m =
+      let apart : q .lower ≡ q .upper → ⊥ = λ e. omega arith in
+      listed-two (q .upper) (q .lower) n l m (λ z a b. lag-none g apart z b a) ∙ rw (lag-lower g apart, lag-upper g apart)
+
+-- Two facts, one after the other: the room for the second, and both appended.
+pub room-next : (at n : ℕ) (l u : Bool) {i m w : ℕ} → at + 3 * cond l 1 0 + 3 * cond u 1 0 ≤ n → w ≡ 3 * cond l 1 0 → i ≡ at + w → m ≡ n → i + 3 * cond u 1 0 ≤ m
+room-next at n l u room long place same = omega arith
+
+pub two-appended : (l u : Bool) (y z k k′ : ℕ) {at i j : ℕ} {a b v w : ℤ} {d d′ d″ : List ℤ} → a ≡ v → b ≡ w → Appended at (words-if l y k a) d d′ i → Appended i (words-if u z k′ b) d′ d″ j →
+    Appended at (words-if l y k v ++ words-if u z k′ w) d d″ j
+two-appended l u y z k k′ p q f g = rw (← p, ← q) (appended-both f g)
+
+-- Room for a list of facts whose words are those of two is room for both.
+pub room-both : (at n : ℕ) (xs : List Premise) (l u : Bool) (y z i j : ℕ) (v w : ℤ) → at + 3 * length xs ≤ n → premise-words xs ≡ words-if l y i v ++ words-if u z j w → at + 3 * cond l 1 0 + 3 * cond u 1 0 ≤ n
+room-both at n xs l u y z i j v w room e =
+    let a = ap length e ∙ length-append (words-if l y i v) (words-if u z j w) in
+    omega (arith, words-length xs, words-count l y i v, words-count u z j w)
 
 -- ---- the model's facts
 -- Two ways to quote that agree give the same list.

@@ -1,65 +1,78 @@
--- `slips::writing::write_premises` appends the facts event by event. The loop's invariant: those of the first z events are appended. Assumes nothing.
+-- `slips::writing::write_premises` appends a lag's two facts at once, else those of all events. Assumes nothing.
 use mathlib.Core.Path.{_≡_}
-use Prim.Native.Nat.{_≤_, _-_}
 use native.Mathlib.Omega.{arith}
+use lib.ListN.{length}
 use Rattle.tables.specs.Board.{board}
-use Rattle.model.specs.Job.{h-min}
-use Rattle.model.specs.Slips.{premise-words, premise-list}
+use Rattle.model.specs.Slips.{premise-list}
 use Rattle.facts.specs.Quotes.{cites-of, says-of}
-use Rattle.slips.specs.Words.{Appended}
-use Rattle.slips.proofs.Filling.{words-length, words-start, words-more, room-for}
+use Rattle.slips.proofs.Filling.{not-true, lower-first, upper-first, room-both}
+use borrow.Author.Needs.{needs}
 use Rattle.slips.proofs.writing.write_premises.Statement.{statement}
 use Rattle.slips.proofs.writing.write_premises.Tie as tie
 
-abbrev Inv-loop : tie.InvT-loop
-Inv-loop d₀ at b n q place₀ z₀ d place z = (z ≤ n) × Appended at (premise-words (premise-list z (cites-of q (board b)) (says-of q (board b)))) d₀ d place
-
-abbrev μ-loop : tie.MeasureT-loop
-μ-loop d₀ at b n q place₀ z₀ d place z = n - z
-
-loop-holds : tie.Need-loop-holds Inv-loop μ-loop
-loop-holds c = let a = c .args in (omega arith, words-start (a .q) (board (a .b .now)) (a .at) (a .d .now))
-
-write-event-requires : tie.Need-write-event-requires Inv-loop μ-loop
-write-event-requires c κs =
-    let s = c .before .before .before in
+write-lower-first-requires : tie.Need-write-lower-first-requires
+write-lower-first-requires c κs =
+    let k = c .before in
+    let s = k .before .before .before .before in
     let a = s .args in
-    let l = c .before .before .loop in
+    let q = a .q in
     let W = board (a .b .now) in
-    let e = l .inv .1 in (
+    let e = lower-first q W (not-true (q .level) (k .before .before .if1 .taken)) (k .before .if2 .taken) (k .if3 .taken) in (
+      room-both (a .at) (length (a .d .now)) (premise-list (a .n) (cites-of q W) (says-of q W)) (q .starts) (q .ends) (q .lower) (q .upper) 1 2 (q .from .0) (q .to .0) (s .pre .1) e,
       omega arith,
-      s .pre .0 .range (l .z) (c .before .loop-test .taken) h-min,
-      omega (arith, words-length (premise-list (l .z) (cites-of (a .q) W) (says-of (a .q) W)), room-for (a .q) W (c .before .loop-test .taken)),
+      omega arith,
     )
 
-add-z : tie.Need-add-z Inv-loop μ-loop
-add-z c = omega arith
+same-length : tie.Need-same-length
+same-length c = search needs
 
-loop-less : tie.Need-loop-less Inv-loop μ-loop
-loop-less c = omega arith
+returns : tie.Need-returns
+returns c =
+    let k = c .before .before .before in
+    let a = k .before .before .before .before .args in
+    rw (lower-first (a .q) (board (a .b .now)) (not-true (a .q .level) (k .before .before .if1 .taken)) (k .before .if2 .taken) (k .if3 .taken)) (c .before .write-lower-first .ensures)
 
-loop-again : tie.Need-loop-again Inv-loop μ-loop
-loop-again c =
-    let a = c .before .before .before .before .before .args in
-    let l = c .before .before .before .before .loop in
-    (omega arith, words-more (a .q) (board (a .b .now)) (l .z) (l .inv .1) (c .before .write-event .ensures))
+write-upper-first-requires : tie.Need-write-upper-first-requires
+write-upper-first-requires c κs =
+    let k = c .before in
+    let s = k .before .before .before .before .before in
+    let a = s .args in
+    let q = a .q in
+    let W = board (a .b .now) in
+    let e = upper-first q W (not-true (q .level) (k .before .before .before .if1 .taken)) (k .before .if4 .taken) (k .if5 .taken) in (
+      room-both (a .at) (length (a .d .now)) (premise-list (a .n) (cites-of q W) (says-of q W)) (q .ends) (q .starts) (q .upper) (q .lower) 2 1 (q .to .0) (q .from .0) (s .pre .1) e,
+      omega arith,
+      omega arith,
+    )
 
-same-length : tie.Need-same-length Inv-loop μ-loop
-same-length c = c .before .loop .inv .1 .same
+same-length-2 : tie.Need-same-length-2
+same-length-2 c = search needs
 
-returns : tie.Need-returns Inv-loop μ-loop
-returns c = let e : c .before .loop .z ≡ c .before .before .args .n = omega arith in rw e at (c .before .loop .inv .1)
+returns-2 : tie.Need-returns-2
+returns-2 c =
+    let k = c .before .before .before in
+    let a = k .before .before .before .before .before .args in
+    rw (upper-first (a .q) (board (a .b .now)) (not-true (a .q .level) (k .before .before .before .if1 .taken)) (k .before .if4 .taken) (k .if5 .taken)) (c .before .write-upper-first .ensures)
+
+write-events-requires : tie.Need-write-events-requires
+write-events-requires c κs = search needs
+
+same-length-3 : tie.Need-same-length-3
+same-length-3 c = search needs
+
+returns-3 : tie.Need-returns-3
+returns-3 c = search needs
 
 pub write-premises-spec : {M : Type 1} → statement M
 write-premises-spec =
     tie.close
     (tie.spec
-    Inv-loop
-    μ-loop
-    loop-holds
-    write-event-requires
-    add-z
-    loop-less
-    loop-again
+    write-lower-first-requires
     same-length
-    returns)
+    returns
+    write-upper-first-requires
+    same-length-2
+    returns-2
+    write-events-requires
+    same-length-3
+    returns-3)

@@ -1,4 +1,4 @@
--- `slips::writing::write_event` appends an event's facts. Assumes nothing.
+-- `slips::writing::write_quoted` appends an event's facts. Assumes nothing.
 use mathlib.Core.Path.{_∙_}
 use native.Mathlib.Omega.{arith}
 use lib.ListN.{length}
@@ -6,12 +6,8 @@ use Rattle.tables.specs.Board.{board}
 use Rattle.integers.proofs.Linear.{back32}
 use Rattle.slips.proofs.Filling.{room-first, room-second, room-third, kind-small, words-count, event-count, event-appended}
 use borrow.Author.Needs.{needs}
-use Rattle.slips.proofs.Filling.{words-count, event-count, event-appended}
-use Rattle.slips.proofs.writing.write_event.Statement.{statement}
-use Rattle.slips.proofs.writing.write_event.Tie as tie
-
-quoted-requires : tie.Need-quoted-requires
-quoted-requires c κs = search needs
+use Rattle.slips.proofs.writing.write_quoted.Statement.{statement}
+use Rattle.slips.proofs.writing.write_quoted.Tie as tie
 
 said-lower-requires : tie.Need-said-lower-requires
 said-lower-requires c κs = search needs
@@ -24,19 +20,19 @@ said-height-requires c κs = search needs
 
 put-premise-requires : tie.Need-put-premise-requires
 put-premise-requires c κs =
-    let s = c .before .before .before .before .before .before in
+    let s = c .before .before .before .before .before in
     let a = s .args in
-    let f = c .before .before .before .before .before .quoted .ensures in
-    let g = c .before .before .before .before .before .quoted .result in
+    let f = s .pre .1 in
+    let g = a .f in
     let e = event-count (a .q) (board (a .b .now)) (a .z) (f .lower) (f .upper) (f .height) in
     (room-first (a .at) (length (a .d .now)) (g .lower) (g .upper) (g .height) (s .pre .2) e, s .pre .0, omega arith)
 
 put-premise-requires-2 : tie.Need-put-premise-requires-2
 put-premise-requires-2 c κs =
-    let s = c .before .before .before .before .before .before .before .before .before .before in
+    let s = c .before .before .before .before .before .before .before .before .before in
     let a = s .args in
-    let f = c .before .before .before .before .before .before .before .before .before .quoted .ensures in
-    let g = c .before .before .before .before .before .before .before .before .before .quoted .result in
+    let f = s .pre .1 in
+    let g = a .f in
     let e = event-count (a .q) (board (a .b .now)) (a .z) (f .lower) (f .upper) (f .height) in
     let one = c .before .before .before .put-premise .ensures in
     (room-second (a .at) (length (a .d .now)) (g .lower) (g .upper) (g .height) (s .pre .2) e (words-count (g .lower) (a .z) 1 _) (one .place) (one .same), s .pre .0, omega arith)
@@ -46,10 +42,10 @@ height-kind-requires c κs = search needs
 
 put-premise-requires-3 : tie.Need-put-premise-requires-3
 put-premise-requires-3 c κs =
-    let s = c .before .before .before .before .before .before .before .before .before .before .before .before .before .before .before in
+    let s = c .before .before .before .before .before .before .before .before .before .before .before .before .before .before in
     let a = s .args in
-    let f = c .before .before .before .before .before .before .before .before .before .before .before .before .before .before .quoted .ensures in
-    let g = c .before .before .before .before .before .before .before .before .before .before .before .before .before .before .quoted .result in
+    let f = s .pre .1 in
+    let g = a .f in
     let e = event-count (a .q) (board (a .b .now)) (a .z) (f .lower) (f .upper) (f .height) in
     let one = c .before .before .before .before .before .before .before .before .put-premise .ensures in
     let two = c .before .before .before .before .put-premise2 .ensures in (
@@ -64,8 +60,9 @@ same-length c = search needs
 
 returns : tie.Need-returns
 returns c =
-    let a = c .before .before .before .before .before .before .before .before .before .before .before .before .before .before .before .before .before .args in
-    let f = c .before .before .before .before .before .before .before .before .before .before .before .before .before .before .before .before .quoted .ensures in
+    let s = c .before .before .before .before .before .before .before .before .before .before .before .before .before .before .before .before in
+    let a = s .args in
+    let f = s .pre .1 in
     let t = c .before .before .before .before .before .before .before .before .before .before .before .before .before .before .before .said-lower in
     let u = c .before .before .before .before .before .before .before .before .before .before .before .before .before .before .said-upper in
     let h = c .before .before .before .before .before .before .before .before .before .before .before .before .before .said-height in
@@ -74,11 +71,10 @@ returns c =
     (c .before .before .before .before .before .before .before .before .before .before .put-premise .ensures)
     (c .before .before .before .before .before .before .put-premise2 .ensures) (c .before .put-premise3 .ensures)
 
-pub write-event-spec : {M : Type 1} → statement M
-write-event-spec =
+pub write-quoted-spec : {M : Type 1} → statement M
+write-quoted-spec =
     tie.close
     (tie.spec
-    quoted-requires
     said-lower-requires
     said-upper-requires
     said-height-requires
