@@ -14,7 +14,7 @@ use Rattle.integers.proofs.Tests.{is-true}
 use Rattle.model.specs.Job.{End, t-min, t-max, h-min, h-max, slot, windows, Windows, Reservoir, Job}
 use Rattle.model.specs.Levels.{Switch, ahead, placed, place, gain, gains, most-in, most, side, side-end, side-reservoir}
 use Rattle.model.specs.Rules.{Finding, nothing, clash, bound, given-if, level-rule, time-rule, targeted, height-rule, Family, level, time, height, Rule, reservoir, switch, family-rule, family-end, rule, finding, own-end, idle, effect}
-use Rattle.model.specs.Rounds.{State, Status, running, ended, acted, attempt, targets-from, three-rules, event-rules}
+use Rattle.model.specs.Rounds.{State, Status, running, ended, acted, attempt, targets-from, three-rules, event-rules, events-from}
 use Rattle.model.proofs.Time.{Waits, Timed, timed, no-earlier}
 use Rattle.model.proofs.Table.{store, slot-inside, windows-set}
 use Rattle.model.proofs.Effects.{side-effect, effect-side}
@@ -145,3 +145,9 @@ module _ (room : ℕ) (j : Job) (e : ℕ) (s : State) (q : Quiet j (windows (s .
   unfolding event-rules
   event-quiet =
       rw (three-quiet 3 false true refl refl refl, three-quiet 6 true true refl refl refl, three-quiet 9 false false refl refl refl, three-quiet 12 true false refl refl refl)
+
+-- No rule does anything at any event.
+pub events-quiet : (room : ℕ) (j : Job) (s : State) → ((e : ℕ) → e < j .events → Quiet j (windows (s .table)) e) → (e k : ℕ) → e + k ≤ j .events → events-from room j e k s ≡ s
+unfolding events-from
+events-quiet room j s q e zero l = refl
+events-quiet room j s q e (suc k) l = rw (event-quiet room j e s (q e (omega arith))) (events-quiet room j s q (e + 1) k (omega arith))

@@ -13,7 +13,7 @@ use Rattle.integers.proofs.Tests.{is-true, true-is, and-out}
 use Rattle.model.specs.Job.{h-min, windows, Windows, Job, lag-a, lag-b}
 use Rattle.model.specs.Levels.{most, side, side-end, side-reservoir}
 use Rattle.model.specs.Rules.{Rule, rule, switch, level, time, height, reservoir, own-end}
-use Rattle.model.specs.Rounds.{State, attempt, targets-from, event-rules}
+use Rattle.model.specs.Rounds.{State, attempt, targets-from, event-rules, events-from}
 use Rattle.model.specs.Reader.{subjects}
 use Rattle.model.proofs.Agree.{Agree, agree-sym, side-agree, most-agree, outcome-agree}
 use Rattle.model.proofs.Standing.{Sane}
@@ -25,10 +25,10 @@ use Rattle.tables.proofs.Board.{windows-board, length-table}
 use Rattle.levels.specs.Values.{reservoir-of}
 use Rattle.rules.specs.Values.{family-of, variant-of}
 use Rattle.silence.specs.Slack.{slack-of, moves, some-move}
-use Rattle.silence.specs.Calm.{reaches-early, spread-of, calm, lag-kept}
+use Rattle.silence.specs.Calm.{reaches-early, spread-of, calm, all-calm, lag-kept}
 use Rattle.rules.specs.declared.Variant.{Variant}
 use Rattle.silence.proofs.Sparing.{still-idle, none-moves}
-use Rattle.silence.proofs.Calming.{reached-apart, calm-quiet, lag-idle}
+use Rattle.silence.proofs.Calming.{reached-apart, calm-quiet, all-calm-each, lag-idle}
 use Rattle.rounds.specs.State.{job-at, state-of, Held, Aimed, Made, lag-rules}
 use Rattle.rounds.specs.Sweeps.{Leaves, two-rules}
 use Rattle.rounds.specs.declared.Job.{Job as Task}
@@ -135,20 +135,31 @@ two-passed {k} {lags} {b} {buffer} {p} r {e} v sane held is low high l m h =
     let second = model.attempt-idle (length buffer) (r + 1) j e e st (table-idle b (r + 1) sane (subject-event j (r + 1) e (omega arith) (omega arith) l) l (subst (λ (x : Rule). Idle x j (board b) e e) next (both .1))) in
     made-none (rw (first, second)) held
 
--- ---- all rules at an event
+-- ---- all rules at an event, and at all events
 
-pub event-passed : {k : Task} {lags b buffer : List ℤ} {p : Progress} {e : ℕ} {d : ℤ} {t : Bool} → Sane (job-at k lags) → Held (k .events) b buffer p → e < k .events → d ≡ spread-of (k .events) (board b)
-    → t ≡ calm (k .events) (reservoir-of (k .reservoir)) (board b) e d → t ≡ true → Made (k .events) (event-rules (length buffer) (job-at k lags) e) b buffer p b buffer p
-event-passed {k} {lags} {b} {buffer} {p} {e} sane held l spread m h =
-    let j = job-at k lags in
-    let q = calm-quiet j (board b) e l spread (sym m ∙ h) in
-    let on : (x : Rule) (y : ℕ) → e < subjects x j → y < k .events → Idle x j (board b) e y → Idle x j (windows (table-of (k .events) b)) e y = λ x y s t i. outcome-agree j (windows (table-of (k .events) b)) (board b) (agree (k .events) b) sane x e y s t ∙ i in
-    let quiet : model.Quiet j (windows (table-of (k .events) b)) e = record {
-      level-quiet = λ m b′. on (reservoir m b′ level) e l l (q .level-quiet m b′);
-      time-quiet = λ m b′. on (reservoir m b′ time) e l l (q .time-quiet m b′);
-      height-quiet = λ m b′ y h′. on (reservoir m b′ height) y l h′ (q .height-quiet m b′ y h′);
-    } in
-    made-none (model.event-quiet (length buffer) j e (state-of (k .events) b buffer p) quiet) held
+module _ {k : Task} {lags b buffer : List ℤ} {p : Progress} (sane : Sane (job-at k lags)) (held : Held (k .events) b buffer p) where
+  -- What is quiet on the board is quiet in the table.
+  table-quiet : {e : ℕ} → e < k .events → model.Quiet (job-at k lags) (board b) e → model.Quiet (job-at k lags) (windows (table-of (k .events) b)) e
+  table-quiet {e} l q =
+      let j = job-at k lags in
+      let on : (x : Rule) (y : ℕ) → e < subjects x j → y < k .events → Idle x j (board b) e y → Idle x j (windows (table-of (k .events) b)) e y = λ x y s t i. outcome-agree j (windows (table-of (k .events) b)) (board b) (agree (k .events) b) sane x e y s t ∙ i in
+      record {
+        level-quiet = λ m b′. on (reservoir m b′ level) e l l (q .level-quiet m b′);
+        time-quiet = λ m b′. on (reservoir m b′ time) e l l (q .time-quiet m b′);
+        height-quiet = λ m b′ y h′. on (reservoir m b′ height) y l h′ (q .height-quiet m b′ y h′);
+      }
+
+  module _ {d : ℤ} {t : Bool} (spread : d ≡ spread-of (k .events) (board b)) where
+    pub event-passed : {e : ℕ} → e < k .events → t ≡ calm (k .events) (reservoir-of (k .reservoir)) (board b) e d → t ≡ true → Made (k .events) (event-rules (length buffer) (job-at k lags) e) b buffer p b buffer p
+    event-passed {e} l m h =
+        let j = job-at k lags in
+        made-none (model.event-quiet (length buffer) j e (state-of (k .events) b buffer p) (table-quiet l (calm-quiet j (board b) e l spread (sym m ∙ h)))) held
+
+    pub events-passed : t ≡ all-calm (k .events) (reservoir-of (k .reservoir)) (board b) d → t ≡ true → Made (k .events) (events-from (length buffer) (job-at k lags) 0 (k .events)) b buffer p b buffer p
+    events-passed m h =
+        let j = job-at k lags in
+        let quiet : (e : ℕ) → e < k .events → model.Quiet j (windows (table-of (k .events) b)) e = λ e l. table-quiet l (calm-quiet j (board b) e l spread (all-calm-each (k .events) (reservoir-of (k .reservoir)) (board b) e d (held .ranged) l (sym m ∙ h))) in
+        made-none (model.events-quiet (length buffer) j (state-of (k .events) b buffer p) quiet 0 (k .events) (omega arith)) held
 
 -- ---- a lag
 

@@ -5,6 +5,7 @@ use crate::attempts::attempt;
 use rules::Variant;
 use rules::findings::variant;
 use rules::lags::lag_event;
+use silence::calm::are_calm;
 use silence::calm::is_calm;
 use silence::calm::is_kept;
 use silence::calm::reaches_early;
@@ -203,7 +204,7 @@ pub fn event_rules(
     three_rules(b, lags, k, 12, e, buffer, by)
 }
 
-// All events in order. An event is passed over where a floor under its levels shows that no rule does anything at it; d is the largest width of an amount window as it then stands.
+// All events in order. All are passed over where the limits are far off, and an event where a floor under its levels shows that no rule does anything at it; d is the largest width of an amount window as it then stands.
 pub fn events_from(
     b: &mut [i32; 256],
     lags: &[i32],
@@ -220,6 +221,9 @@ pub fn events_from(
     let n = k.events;
     let mut q = p;
     let mut d = spread(b, n);
+    if are_calm(b, n, k.reservoir, d) {
+        return p;
+    }
     let mut e: usize = 0;
     while e < n {
         if !is_calm(b, n, k.reservoir, e, d) {

@@ -14,8 +14,8 @@ use lib.Signed.{leZ, ltZ, _≤ℤ_, leZ-yes}
 use Rattle.integers.specs.Range.{Within}
 use Rattle.integers.specs.Sum.{sum}
 use Rattle.integers.proofs.Linear.{ints, add-law, sub-law}
-use Rattle.integers.proofs.Sums.{sum-le-but}
-use Rattle.integers.proofs.Tests.{is-true, true-is, and-out}
+use Rattle.integers.proofs.Sums.{sum-le, sum-le-but}
+use Rattle.integers.proofs.Tests.{is-true, true-is, and-in, and-out}
 use Rattle.model.specs.Job.{t-min, t-max, h-min, h-max, Windows, Reservoir, Job, produces, lag-a, lag-b, lag-d}
 use Rattle.model.specs.Levels.{Switch, ahead, placed, gain, gains, most-in, most, side, side-reservoir}
 use Rattle.model.specs.Rules.{switch, level, time, height, lag-upper, lag-lower, reservoir, finding, idle, narrows, fails}
@@ -23,9 +23,9 @@ use Rattle.model.proofs.Levels.{gain-possible, most-later}
 use Rattle.model.proofs.Silence.{Idle, side-idle, level-idle, time-idle, spared-idle, Quiet}
 use Rattle.rules.specs.Values.{lag-at}
 use Rattle.levels.specs.Values.{Ranged, Reserved}
-use Rattle.silence.specs.Calm.{reaches-early, floor-gain, floor-of, larger, spread-of, floored, calm, lag-kept}
+use Rattle.silence.specs.Calm.{reaches-early, floor-gain, floor-of, larger, spread-of, floored, calm, drain, deep, ordered, all-calm, lag-kept}
 use Rattle.levels.proofs.Placing.{side-early, side-late}
-use Rattle.levels.proofs.Adding.{kept-within, within-sum, own-term, other-term}
+use Rattle.levels.proofs.Adding.{kept-within, side-ranged, within-sum, own-term, other-term}
 use Rattle.silence.proofs.Sparing.{width-side}
 
 -- ---- the tests as the code makes them
@@ -255,6 +255,70 @@ calm-quiet j W e {d} l p q =
         → (side-reservoir m (j .reservoir) .min-level +ℤ d) ≤ℤ floor-of (j .events) (side-reservoir m (j .reservoir)) (side m W) e
     go true x y = y
     go false x y = x
+
+-- ---- every event
+
+pub drain-within : {n : ℕ} {W : Windows} (y : ℕ) → Ranged n W → y < n → Within (drain W y) 9999
+drain-within {n} {W} y r l = own-range (W y h-max) (r .range y l h-max)
+
+pub drains-within : {n : ℕ} (i : ℕ) {c : Reservoir} {W : Windows} → Ranged n W → Reserved c → i ≤ n → Within (c .initial +ℤ sum i (drain W)) 1640000
+drains-within {n} i {c} {W} r d l = within-sum i n (c .initial) (drain W) l (r .few) (d .initial-range) (λ y b. drain-within y r b)
+
+pub deep-at : (m : Bool) (n : ℕ) (c : Reservoir) (W : Windows) (d : ℤ) {s : Reservoir} {least edge : ℤ} {t : Bool} → s ≡ side-reservoir m c → least ≡ s .initial +ℤ sum n (drain (side m W)) → edge ≡ s .min-level +ℤ d → t ≡ leZ edge least → t ≡ deep m n c W d
+deep-at m n c W d s a g t = t ∙ rw (g, a, s)
+
+pub ordered-none : (W : Windows) → true ≡ ordered 0 W
+unfolding ordered
+ordered-none W = refl
+
+pub ordered-more : (W : Windows) (y : ℕ) {u v : ℤ} {a o : Bool} → a ≡ ordered y W → u ≡ W y t-min → v ≡ W y t-max → o ≡ leZ u v → (a && o) ≡ ordered (y + 1) W
+unfolding ordered
+ordered-more W y a u v o = rw (add-one y, a, o, u, v)
+
+pub reach-within : (d : ℤ) {r : ℤ} → r ≡ d +ℤ pos 9999 → Within d 20000 → Within r 30000
+reach-within d e w = omega (ints, add-law d (pos 9999))
+
+pub all-calm-at : (n : ℕ) (c : Reservoir) (W : Windows) (d : ℤ) {r : ℤ} {f g o : Bool} → r ≡ d +ℤ pos 9999 → f ≡ deep false n c W r → g ≡ deep true n c W r → o ≡ ordered n W → (f && (g && o)) ≡ all-calm n c W d
+all-calm-at n c W d r f g o = rw (f, g, o, r)
+
+ordered-each : (n : ℕ) (W : Windows) (e : ℕ) → e < n → T (ordered n W) → T (leZ (W e t-min) (W e t-max))
+unfolding ordered
+ordered-each zero W e l h = absurd (omega arith)
+ordered-each (suc n) W e l h = go (ℕ-discrete e n) (and-out (ordered n W) (leZ (W n t-min) (W n t-max)) h) (λ k. ordered-each n W e k)
+  where
+    go : Dec (e ≡ n) → T (ordered n W) × T (leZ (W n t-min) (W n t-max)) → (e < n → T (ordered n W) → T (leZ (W e t-min) (W e t-max))) → T (leZ (W e t-min) (W e t-max))
+    go (yes i) p rec = rw i (p .1)
+    go (no d) p rec = rec (omega arith) (p .0)
+
+-- What an event takes is no more than what it adds at least.
+under-floor : (p f g : Bool) (h : ℤ) → produces h ≡ p → cond p (pos 0) h ≤ℤ cond ((p && f) || (not p && g)) h (pos 0)
+under-floor true true g h q = omega ints
+under-floor true false g h q = omega ints
+under-floor false f true h q = omega ints
+under-floor false f false h q = omega ints
+
+deep-under : (l d q a b o : ℤ) → T (leZ (l +ℤ (d +ℤ pos 9999)) (q +ℤ a)) → a ≤ℤ b → Within o 9999 → T (leZ (l +ℤ d) ((q +ℤ b) +ℤ o))
+deep-under l d q a b o h p w = omega (ints, add-law d (pos 9999), add-law l (d +ℤ pos 9999), add-law q a, add-law l d, add-law q b, add-law (q +ℤ b) o)
+
+module _ (m : Bool) (n : ℕ) (c : Reservoir) (W : Windows) (e : ℕ) (d : ℤ) (r : Ranged n W) (l : e < n) where
+  deep-floored : T (deep m n c W (d +ℤ pos 9999)) → T (floored m n c W e d)
+  deep-floored h =
+      let X = side m W in
+      let q = side-reservoir m c in
+      let w = side-ranged m r in
+      deep-under (q .min-level) d (q .initial) (sum n (drain X)) (sum n (floor-gain X (X e t-min))) (drain X e) h
+      (sum-le n (drain X) (floor-gain X (X e t-min)) (λ y b. under-floor (produces (X y h-max)) (ltZ (X y t-min) (X e t-min)) (leZ (X y t-max) (X e t-min)) (X y h-max) refl))
+      (drain-within e w l)
+
+pub all-calm-each : (n : ℕ) (c : Reservoir) (W : Windows) (e : ℕ) (d : ℤ) → Ranged n W → e < n → all-calm n c W d ≡ true → calm n c W e d ≡ true
+all-calm-each n c W e d r l q =
+    let a = and-out (deep false n c W (d +ℤ pos 9999)) (deep true n c W (d +ℤ pos 9999) && ordered n W) (true-is q) in
+    let b = and-out (deep true n c W (d +ℤ pos 9999)) (ordered n W) (a .1) in
+    let f = deep-floored false n c W e d r l (a .0) in
+    let g = deep-floored true n c W e d r l (b .0) in
+    is-true (calm n c W e d)
+    (and-in (floored false n c W e d) (floored true n c W e d && leZ (W e t-min) (W e t-max)) f
+    (and-in (floored true n c W e d) (leZ (W e t-min) (W e t-max)) g (ordered-each n W e l (b .1))))
 
 -- ---- lags
 

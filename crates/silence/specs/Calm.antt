@@ -42,6 +42,23 @@ floored m n c W e d = leZ (side-reservoir m c .min-level +ℤ d) (floor-of n (si
 abbrev pub calm : ℕ → Reservoir → Windows → ℕ → ℤ → Bool
 calm n c W e d = floored false n c W e d && (floored true n c W e d && leZ (W e t-min) (W e t-max))
 
+-- What y takes at most.
+abbrev pub drain : Windows → ℕ → ℤ
+drain W y = cond (produces (W y h-max)) (pos 0) (W y h-max)
+
+-- The opening stock less all that events can take lies over the limit by d.
+abbrev pub deep : Bool → ℕ → Reservoir → Windows → ℤ → Bool
+deep m n c W d = leZ (side-reservoir m c .min-level +ℤ d) (side-reservoir m c .initial +ℤ sum n (drain (side m W)))
+
+-- No event ends before it begins.
+unfoldable pub ordered : ℕ → Windows → Bool
+ordered zero W = true
+ordered (suc y) W = ordered y W && leZ (W y t-min) (W y t-max)
+
+-- It does so on both sides by d and the largest amount, which e's own may take once more: every event is calm.
+abbrev pub all-calm : ℕ → Reservoir → Windows → ℤ → Bool
+all-calm n c W d = deep false n c W (d +ℤ pos 9999) && (deep true n c W (d +ℤ pos 9999) && ordered n W)
+
 -- Rules 1 and 2 of lag g leave both windows as they are.
 abbrev pub lag-kept : List ℤ → Windows → ℕ → Bool
 lag-kept lags W g =

@@ -21,7 +21,7 @@ use tables::t_max;
 use tables::t_min;
 ghost use mathlib.Core.Path.{_≡_};
 ghost use mathlib.Core.Bool.{cond};
-ghost use Prim.Native.Nat.{_<_};
+ghost use Prim.Native.Nat.{_<_, _≤_};
 ghost use lib.IntN.{pos, natAbs, _+ℤ_};
 ghost use Rattle.integers.specs.Range.{Within};
 ghost use Rattle.integers.specs.Sum.{sum};
@@ -30,7 +30,7 @@ ghost use Rattle.model.specs.Levels.{side};
 ghost use Rattle.tables.specs.Board.{board};
 ghost use Rattle.levels.specs.Values.{reservoir-of, Ranged, Reserved};
 ghost use Rattle.rules.specs.Values.{lag-at, Lagged};
-ghost use Rattle.silence.specs.Calm.{reaches-early, floor-gain, floor-of, larger, spread-of, floored, calm, lag-kept};
+ghost use Rattle.silence.specs.Calm.{reaches-early, floor-gain, floor-of, larger, spread-of, floored, calm, drain, deep, ordered, all-calm, lag-kept};
 
 // ---- rules 3 and 4
 
@@ -119,6 +119,63 @@ pub fn is_calm(b: &[i32; 256], n: usize, c: Reservoir, e: usize, d: Height) -> b
         false
     }
 }
+
+// ---- rules 3 to 14 at every event
+
+// The opening stock less all that events can take.
+fn drained(b: &[i32; 256], n: usize, c: Reservoir, m: bool) -> Height
+    requires { ⌜ Ranged n (board (now b)) × Reserved (reservoir-of c) ⌝ }
+    ensures { λ r. ⌜ r .0 ≡ c .initial .0 +ℤ sum n (drain (side m (board (now (b .entry))))) ⌝ }
+{
+    let mut total = opening(c);
+    let mut y: usize = 0;
+    while y < n {
+        let h = own_floor(b, m, y);
+        total = plus(total, h);
+        y += 1;
+    }
+    total
+}
+
+// Does that lie over the limit by d?
+fn is_deep(b: &[i32; 256], n: usize, c: Reservoir, m: bool, d: Height) -> bool
+    requires { ⌜ Ranged n (board (now b)) × Reserved (reservoir-of c) × Within (d .0) 30000 ⌝ }
+    ensures { λ r. ⌜ r ≡ deep m n (reservoir-of c) (board (now (b .entry))) (d .0) ⌝ }
+{
+    let s = side_reservoir(m, c);
+    let least = drained(b, n, s, m);
+    let low = s.low;
+    at_most(plus(low, d), least)
+}
+
+// Does no event end before it begins?
+fn are_ordered(b: &[i32; 256], n: usize) -> bool
+    requires { ⌜ n ≤ 64 ⌝ }
+    ensures { λ r. ⌜ r ≡ ordered n (board (now (b .entry))) ⌝ }
+{
+    let mut all = true;
+    let mut y: usize = 0;
+    while y < n {
+        let one = no_later(t_min(b, y), t_max(b, y));
+        all = all & one;
+        y += 1;
+    }
+    all
+}
+
+// Is every event calm, since even all that can be taken leaves the limits far off?
+pub fn are_calm(b: &[i32; 256], n: usize, c: Reservoir, d: Height) -> bool
+    requires { ⌜ Ranged n (board (now b)) × Reserved (reservoir-of c) × Within (d .0) 20000 ⌝ }
+    ensures { λ r. ⌜ r ≡ all-calm n (reservoir-of c) (board (now (b .entry))) (d .0) ⌝ }
+{
+    let reach = plus(d, Height(9999));
+    let low = is_deep(b, n, c, false, reach);
+    let high = is_deep(b, n, c, true, reach);
+    let ordered = are_ordered(b, n);
+    low & (high & ordered)
+}
+
+// ---- the largest width
 
 fn larger(a: Height, w: Height) -> Height
     ensures { λ r. ⌜ r .0 ≡ larger (a .0) (w .0) ⌝ }

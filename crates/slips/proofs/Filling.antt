@@ -184,13 +184,6 @@ module _ (q : Citing) (W : Windows) where
   words-start at d = rw (← premises-none) (appended-none at d)
 
 -- ---- a lag's slip: the facts of two events
-pub not-true : (t : Bool) → not t ≡ true → t ≡ false
-not-true t e = sym (not-not t) ∙ ap not e
-  where
-    not-not : (b : Bool) → not (not b) ≡ b
-    not-not true = refl
-    not-not false = refl
-
 module _ (q : Citing) (W : Windows) where
   listed-more : (z : ℕ) → premise-words (premise-list (z + 1) (cites-of q W) (says-of q W)) ≡ premise-words (premise-list z (cites-of q W) (says-of q W)) ++ premise-words (premises-of q W z)
   listed-more z = rw (premises-more q W z) (words-append (premise-list z (cites-of q W) (says-of q W)) (premises-of q W z))

@@ -1,4 +1,4 @@
--- `rounds::sweeps::events_from` goes through the events, and passes over those at which no rule does anything. The loop's invariant: what is left from e on is, from the start, the whole sweep; and d is the largest width. Assumes nothing.
+-- `rounds::sweeps::events_from` goes through the events, and passes over those at which no rule does anything, or over all of them. The loop's invariant: what is left from e on is, from the start, the whole sweep; and d is the largest width. Assumes nothing.
 use mathlib.Core.Path.{_≡_}
 use mathlib.Core.List.{List}
 use mathlib.Core.Logic.{⊎-elim}
@@ -17,7 +17,7 @@ use Rattle.rules.proofs.Putting.{reserved}
 use Rattle.rounds.specs.State.{job-at}
 use Rattle.rounds.specs.declared.Progress.{Progress}
 use Rattle.rounds.proofs.Moves.{Going, going-start, going-on, going-end, events-more, events-done}
-use Rattle.rounds.proofs.Sparing.{event-passed, joined}
+use Rattle.rounds.proofs.Sparing.{event-passed, events-passed, joined}
 use Rattle.rounds.proofs.sweeps.events_from.Statement.{statement}
 use Rattle.rounds.proofs.sweeps.events_from.Tie as tie
 
@@ -34,19 +34,30 @@ abbrev μ-loop : tie.MeasureT-loop
 spread-requires : tie.Need-spread-requires Inv-loop μ-loop
 spread-requires c κs = c .before .pre .1 .ranged
 
+are-calm-requires : tie.Need-are-calm-requires Inv-loop μ-loop
+are-calm-requires c κs = let k = c .before in let s = k .before .before in (s .pre .1 .ranged, reserved (s .pre .0), k .spread .ensures .1)
+
+returns : tie.Need-returns Inv-loop μ-loop
+returns c =
+    let k = c .before .before .before in
+    let s = k .before .before in
+    events-passed (s .pre .0) (s .pre .1) (k .spread .ensures .0) (c .before .are-calm .ensures) (c .if1 .taken)
+
 loop-holds : tie.Need-loop-holds Inv-loop μ-loop
-loop-holds c = (omega arith, going-start (rw sub-zero) (c .before .before .pre .1), c .spread .ensures .0, c .spread .ensures .1)
+loop-holds c =
+    let k = c .before .before .before in
+    (omega arith, going-start (rw sub-zero) (k .before .before .pre .1), k .spread .ensures .0, k .spread .ensures .1)
 
 is-calm-requires : tie.Need-is-calm-requires Inv-loop μ-loop
 is-calm-requires c κs =
-    let s = c .before .before .before .before .before in
+    let s = c .before .before .before .before .before .before .before .before in
     let l = c .before .before .loop in
     (l .inv .1 .grown .held .ranged, reserved (s .pre .0), omega arith, l .inv .3)
 
 event-rules-requires : tie.Need-event-rules-requires Inv-loop μ-loop
 event-rules-requires c κs =
     let l = c .before .before .before .before .before .before .loop in
-    (c .before .before .before .before .before .before .before .before .before .pre .0, l .inv .1 .grown .held, omega arith)
+    (c .before .before .before .before .before .before .before .before .before .before .before .before .pre .0, l .inv .1 .grown .held, omega arith)
 
 spread-requires-2 : tie.Need-spread-requires-2 Inv-loop μ-loop
 spread-requires-2 c κs = c .before .before .event-rules .ensures .grown .held .ranged
@@ -59,26 +70,26 @@ loop-less c = omega arith
 
 loop-again : tie.Need-loop-again Inv-loop μ-loop
 loop-again c =
-    let s = c .before .before .before .before .before .before .before in
+    let s = c .before .before .before .before .before .before .before .before .before .before in
     let a = s .args in
     let l = c .before .before .before .before .loop in
     let j = job-at (a .k) (a .lags .now) in
     let n = a .k .events in
-    let Next : List ℤ → List ℤ → Progress → Height → Type 0 = λ b buffer q d. Inv-loop (a .b .now) (a .lags .now) (a .k) (a .buffer .now) n (a .p) (c .before .before .before .before .before .spread .result) 0 b buffer q d (l .e + 1) in
+    let Next : List ℤ → List ℤ → Progress → Height → Type 0 = λ b buffer q d. Inv-loop (a .b .now) (a .lags .now) (a .k) (a .buffer .now) n (a .p) (c .before .before .before .before .before .before .before .before .spread .result) 0 b buffer q d (l .e + 1) in
     let more = events-more (length (a .buffer .now)) j (l .e) n (omega arith) in
     let on : ℕ → State → State = λ room. event-rules room j (l .e) in
     ⊎-elim
     (λ w. joined Next (w .7) (w .8) (w .9) (w .10) (omega arith, going-on on more (l .inv .1) (w .3 .ensures), w .6 .ensures .0, w .6 .ensures .1))
     (λ w. joined Next (w .1) (w .2) (w .3) (w .4)
-    (omega arith, going-on on more (l .inv .1) (event-passed (s .pre .0) (l .inv .1 .grown .held) (omega arith) (l .inv .2) (c .before .is-calm .ensures) (not-false (c .before .is-calm .result) (w .0 .left))), l .inv .2, l .inv .3))
-    (c .if1 .came)
+    (omega arith, going-on on more (l .inv .1) (event-passed (s .pre .0) (l .inv .1 .grown .held) (l .inv .2) (omega arith) (c .before .is-calm .ensures) (not-false (c .before .is-calm .result) (w .0 .left))), l .inv .2, l .inv .3))
+    (c .if2 .came)
 
 same-length : tie.Need-same-length Inv-loop μ-loop
 same-length c = c .before .loop .inv .1 .grown .same
 
-returns : tie.Need-returns Inv-loop μ-loop
-returns c =
-    let a = c .before .before .before .before .args in
+returns-2 : tie.Need-returns-2 Inv-loop μ-loop
+returns-2 c =
+    let a = c .before .before .before .before .before .before .before .args in
     let l = c .before .loop in
     going-end (events-done (length (a .buffer .now)) (job-at (a .k) (a .lags .now)) (l .e) (a .k .events) (omega arith)) (l .inv .1)
 
@@ -89,6 +100,8 @@ events-from-spec =
     Inv-loop
     μ-loop
     spread-requires
+    are-calm-requires
+    returns
     loop-holds
     is-calm-requires
     event-rules-requires
@@ -97,4 +110,4 @@ events-from-spec =
     loop-less
     loop-again
     same-length
-    returns)
+    returns-2)

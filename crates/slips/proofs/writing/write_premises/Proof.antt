@@ -1,11 +1,12 @@
 -- `slips::writing::write_premises` appends a lag's two facts at once, else those of all events. Assumes nothing.
 use mathlib.Core.Path.{_≡_}
 use native.Mathlib.Omega.{arith}
+use borrow.Author.Tests.{not-true}
 use lib.ListN.{length}
 use Rattle.tables.specs.Board.{board}
 use Rattle.model.specs.Slips.{premise-list}
 use Rattle.facts.specs.Quotes.{cites-of, says-of}
-use Rattle.slips.proofs.Filling.{not-true, lower-first, upper-first, room-both}
+use Rattle.slips.proofs.Filling.{lower-first, upper-first, room-both}
 use borrow.Author.Needs.{needs}
 use Rattle.slips.proofs.writing.write_premises.Statement.{statement}
 use Rattle.slips.proofs.writing.write_premises.Tie as tie
