@@ -28,8 +28,13 @@ pub enum Amounts {
     Wide,
 }
 
-/// The tightest limits at which the wide creep narrows nothing but its pair.
-const TIGHT: (i32, i32) = (-987, 1);
+/// The tightest limits at which a creep narrows nothing but its pair.
+fn tight_limits(amounts: Amounts) -> (i32, i32) {
+    match amounts {
+        Amounts::Fixed => (-1_460, 1),
+        Amounts::Wide => (-987, 1),
+    }
+}
 
 /// Two lags at odds by one minute between two events over the whole horizon;
 /// the other 62 events have random windows, and the other 254 lags never narrow.
@@ -80,9 +85,9 @@ pub fn creep(amounts: Amounts) -> RawJob {
     crept(amounts, SLACK)
 }
 
-/// The wide creep with limits as tight as they can be.
-pub fn tight_creep() -> RawJob {
-    crept(Amounts::Wide, TIGHT)
+/// A creep with limits as tight as they can be.
+pub fn tight_creep(amounts: Amounts) -> RawJob {
+    crept(amounts, tight_limits(amounts))
 }
 
 fn two_events(rng: &mut Rng) -> (usize, usize) {

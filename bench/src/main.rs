@@ -63,13 +63,15 @@ fn main() {
         &creep,
         Some(0.0145),
     );
+    let creep = families::tight_creep(Amounts::Fixed);
+    time_plan("plan: the same, limits tight", &creep, Some(0.0145));
     let creep = families::creep(Amounts::Wide);
     time_plan(
         "plan: creep, amounts wide, limits slack",
         &creep,
         Some(0.079),
     );
-    let creep = families::tight_creep();
+    let creep = families::tight_creep(Amounts::Wide);
     time_plan(
         "plan: creep, amounts wide, limits tight",
         &creep,
