@@ -30,16 +30,16 @@ pub fn no_later(a: Time, b: Time) -> bool
     a.0 <= b.0
 }
 
-pub fn below(a: Height, b: Height) -> bool
-    ensures { λ r. ⌜ r ≡ ltZ (a .0) (b .0) ⌝ }
+pub fn below(h: Height, k: Height) -> bool
+    ensures { λ r. ⌜ r ≡ ltZ (h .0) (k .0) ⌝ }
 {
-    a.0 < b.0
+    h.0 < k.0
 }
 
-pub fn at_most(a: Height, b: Height) -> bool
-    ensures { λ r. ⌜ r ≡ leZ (a .0) (b .0) ⌝ }
+pub fn at_most(h: Height, k: Height) -> bool
+    ensures { λ r. ⌜ r ≡ leZ (h .0) (k .0) ⌝ }
 {
-    a.0 <= b.0
+    h.0 <= k.0
 }
 
 // Before (strict) or by.
