@@ -8,22 +8,23 @@ use lib.Dec.{T, eqb, eqb→eq}
 use lib.IntN.{ℤ}
 use lib.ListN.{length, drop}
 use Rattle.integers.proofs.Tests.{true-is, and-out}
-use Rattle.model.specs.Job.{End, opposite, meets, slot, Windows, windows, Job, Schedule, value, Inside, Legal}
-use Rattle.model.specs.Rules.{own-end, bound, idle, narrows, fails, effect}
-use Rattle.model.specs.Slips.{Explanation, slip-words, slip-length}
+use Rattle.model.specs.Job.{End, opposite, meets, slot, Windows, windows, Job, Schedule, value, Inside, Legal, events}
+use Rattle.model.specs.Standing.{Sane, Standing}
+use Rattle.model.specs.Rules.{own-end, bound, idle, narrows, fails, effect, is-narrowing}
+use Rattle.model.specs.Slips.{Explanation, slip-words, slip-length, at, premise-count, slip-at, rule-of, target-of, log-words, last-begins}
+use Rattle.model.specs.Agenda.{Each}
 use Rattle.model.specs.Questions.{Check, pass, refuse, ask}
-use Rattle.model.specs.Reader.{at, premise-count, whole, slip-at, reading, rule-of, target-of, names, same-end, all-true, narrowed, is-conflict, gives, is-narrowing, fits-there, slip-questions, applied, Read, read-from}
-use Rattle.model.proofs.Standing.{Sane, Standing}
+use Rattle.model.specs.Reader.{whole, reading, names, same-end, all-true, narrowed, is-conflict, gives, fits-there, slip-questions, applied, Read, read-from}
+use Rattle.model.specs.Demand.{slips-from}
 use Rattle.model.proofs.Order.{same-end-is, all-true-inside}
 use Rattle.model.proofs.Table.{store, slot-inside, windows-set, standing-narrow}
 use Rattle.model.proofs.Levels.{Signed}
 use Rattle.model.proofs.Sound.{Named, named, Concludes, stands-alone}
 use Rattle.model.proofs.Questions.{refusal, then-out, ask-out}
 use Rattle.model.proofs.Written.{replayed, conflicting-after}
-use Rattle.model.proofs.Words.{slip-words-length, log-words, last-begins}
+use Rattle.model.proofs.Words.{slip-words-length}
 use Rattle.model.proofs.Refusals.{applied-length}
 use Rattle.model.proofs.Reading.{premises-at-length, slip-there}
-use Rattle.model.proofs.Demand.{Each, slips-from}
 
 -- ---- one slip
 
@@ -130,10 +131,10 @@ inside-store {n} {W} {x} i y k v h z m l = go (same-end l k && eqb z y) (λ t. t
         let a = and-out (same-end l k) (eqb z y) (f tt) in
         rw (eqb→eq z y (a .1), same-end-is l k (a .0)) h
 
-module _ (j : Job) (sane : Sane j) (wide : Windows) (signs : Signed (j .events) wide) (p : Schedule) (legal : Legal j wide p) where
+module _ (j : Job) (sane : Sane j) (wide : Windows) (signs : Signed (events j) wide) (p : Schedule) (legal : Legal j wide p) where
   -- A plan in the windows is in those that the slip leaves, and the slip is no conflict.
-  one-kept : (table : List ℤ) (x : Explanation) (k : ℕ) → length table ≡ 4 * j .events → Passed j wide (windows table) x k → Inside (j .events) (windows table) (value p)
-      → Inside (j .events) (windows (applied table x)) (value p) × (is-conflict x ≡ true → ⊥)
+  one-kept : (table : List ℤ) (x : Explanation) (k : ℕ) → length table ≡ 4 * events j → Passed j wide (windows table) x k → Inside (events j) (windows table) (value p)
+      → Inside (events j) (windows (applied table x)) (value p) × (is-conflict x ≡ true → ⊥)
   one-kept table x k long q i = go (is-conflict x) refl done
     where
       n : Named j x
@@ -142,20 +143,20 @@ module _ (j : Job) (sane : Sane j) (wide : Windows) (signs : Signed (j .events) 
       done : Concludes p x
       done = stands-alone j wide p x sane signs legal (q .named) (all-true-inside i (x .premises) (n .premises-real) (q .premises-true)) (q .given)
 
-      go : (b : Bool) → is-conflict x ≡ b → Concludes p x → Inside (j .events) (windows (applied table x)) (value p) × (is-conflict x ≡ true → ⊥)
+      go : (b : Bool) → is-conflict x ≡ b → Concludes p x → Inside (events j) (windows (applied table x)) (value p) × (is-conflict x ≡ true → ⊥)
       go true e c = absurd (rw e at c)
       go false e c =
           let y = target-of x in
           let k = own-end (rule-of x) in
-          let there : slot y k < length table = rw long (slot-inside (j .events) y k (n .target-real)) in
+          let there : slot y k < length table = rw long (slot-inside (events j) y k (n .target-real)) in
           let met : T (meets k (x .value) (value p y k)) = rw e at c in (
             rw e (record { inside = λ z m l. rw (windows-set table y k (x .value) there z l) (inside-store i y k (x .value) met z m l) }),
             λ f. let z : true ≡ false = cc in subst T z tt,
           )
 
   -- A plan in the windows is in those that the slips leave, and none of them is a conflict.
-  pub all-kept : (xs : List Explanation) (table : List ℤ) → length table ≡ 4 * j .events → AllPassed j wide table xs → Inside (j .events) (windows table) (value p)
-      → Inside (j .events) (windows (replayed table xs)) (value p) × Each (λ (x : Explanation). is-conflict x ≡ true → ⊥) xs
+  pub all-kept : (xs : List Explanation) (table : List ℤ) → length table ≡ 4 * events j → AllPassed j wide table xs → Inside (events j) (windows table) (value p)
+      → Inside (events j) (windows (replayed table xs)) (value p) × Each (λ (x : Explanation). is-conflict x ≡ true → ⊥) xs
   unfolding replayed
   all-kept [] table long q i = (i, tt)
   all-kept (x ∷ xs) table long q i =
@@ -171,20 +172,20 @@ narrowing-is true false v t = refl
 narrowing-is false b v t = absurd t
 
 -- A slip that passes leaves the windows standing.
-pub passed-standing : (j : Job) (sent wide : Windows) (table : List ℤ) (x : Explanation) (k : ℕ) → length table ≡ 4 * j .events → Standing j sent (windows table) → Passed j wide (windows table) x k → Standing j sent (windows (applied table x))
-passed-standing j sent wide table x k long std q = go (is-conflict x) refl
+pub passed-standing : (j : Job) (wide : Windows) (table : List ℤ) (x : Explanation) (k : ℕ) → length table ≡ 4 * events j → Standing j (windows table) → Passed j wide (windows table) x k → Standing j (windows (applied table x))
+passed-standing j wide table x k long std q = go (is-conflict x) refl
   where
-    go : (b : Bool) → is-conflict x ≡ b → Standing j sent (windows (applied table x))
+    go : (b : Bool) → is-conflict x ≡ b → Standing j (windows (applied table x))
     go true e = rw e std
     go false e =
         let W = windows table in
         let y = target-of x in
         let l = own-end (rule-of x) in
         let n = narrowing-is (meets (opposite l) (W y (opposite l)) (x .value)) (meets l (x .value) (W y l)) (x .value) (q .narrowing e) in
-        rw e (standing-narrow j sent table y l (bound (x .value)) (x .value) long (named j x (q .named) .target-real) std n)
+        rw e (standing-narrow j table y l (bound (x .value)) (x .value) long (named j x (q .named) .target-real) std n)
 
-pub all-standing : (j : Job) (sent wide : Windows) (xs : List Explanation) (table : List ℤ) → length table ≡ 4 * j .events → Standing j sent (windows table) → AllPassed j wide table xs → Standing j sent (windows (replayed table xs))
+pub all-standing : (j : Job) (wide : Windows) (xs : List Explanation) (table : List ℤ) → length table ≡ 4 * events j → Standing j (windows table) → AllPassed j wide table xs → Standing j (windows (replayed table xs))
 unfolding replayed
-all-standing j sent wide [] table long std q = std
-all-standing j sent wide (x ∷ xs) table long std q =
-    all-standing j sent wide xs (applied table x) (applied-length table x ∙ long) (passed-standing j sent wide table x (length xs) long std (q .0)) (q .1)
+all-standing j wide [] table long std q = std
+all-standing j wide (x ∷ xs) table long std q =
+    all-standing j wide xs (applied table x) (applied-length table x ∙ long) (passed-standing j wide table x (length xs) long std (q .0)) (q .1)

@@ -1,20 +1,25 @@
--- Document 01's cases with P (K1 to K10): one listing of inputs and expected words, one statement that the definitions give them, proved by computation.
+-- Document 01's cases with P (K1 to K10): one listing of inputs and expected words, K1's text and what is printed of it too, one statement that the definitions give them, proved by computation.
 -- Assumes nothing.
 use mathlib.Core.Path.{_≡_, refl}
 use mathlib.Core.List.{List, [], _∷_}
 use Prim.Native.Nat.{ℕ}
+use Prim.Native.String.{String}
 use lib.IntN.{ℤ, pos, negℤ}
 use lib.ListN.{take, length}
 use Rattle.integers.specs.Sum.{sum}
-use Rattle.model.specs.Job.{windows}
+use Rattle.model.specs.Job.{windows, job, Job}
 use Rattle.model.specs.Levels.{most-in, sure-part}
 use Rattle.model.specs.Rules.{earliest, finding}
 use Rattle.model.specs.Facts.{any, quotes, quoted}
-use Rattle.model.specs.Slips.{premise-words, slip-words, premise-list}
-use Rattle.model.specs.Rounds.{settled, conflict, stopped, still-open, acted, attempt, lags-from, targets-from, three-rules, event-rules, events-from, round, run}
-use Rattle.model.specs.Questions.{each, questions}
+use Rattle.model.specs.Slips.{premise-words, slip-words, premise-list, premises-at, slip-at}
+use Rattle.model.specs.Agenda.{agenda, each-of}
+use Rattle.model.specs.Rounds.{settled, conflict, stopped, still-open, acted, attempt, run, made}
+use Rattle.model.specs.Questions.{each, questions, own-questions}
 use Rattle.model.specs.Planner.{Reply, refused, done, Outcome, plan}
-use Rattle.model.specs.Reader.{premises-at, whole, slip-at, reading, premises-fit, names, all-true, narrowed, gives, slip-questions, read-from, read-all, check}
+use Rattle.model.specs.Reader.{whole, reading, premises-fit, names, all-true, narrowed, gives, slip-questions, read-from, read-all, check}
+use Rattle.model.specs.Text.{bytes, digits-value, numbers-behind, job-of, job-text}
+use Rattle.model.specs.Print.{last-digits, numeral, integer, line-of, event-lines}
+use Rattle.model.specs.Program.{slip-room, program}
 
 pub data Call : Type 0 where
   planner reader : Call
@@ -37,12 +42,15 @@ pub record Case : Type 0 where
 abbrev pub neg : ℕ → ℤ
 neg n = negℤ (pos n)
 
+abbrev pub called : Case → Job
+called c = job (c .horizon) (c .low) (c .high) (c .opening) (c .table) (c .lags)
+
 abbrev pub outcome : Case → Outcome
 outcome c = go (c .call)
   where
     go : Call → Outcome
-    go planner = plan (c .horizon) (c .low) (c .high) (c .opening) (c .table) (c .lags) (c .buffer)
-    go reader = check (c .horizon) (c .low) (c .high) (c .opening) (c .table) (c .lags) (c .buffer)
+    go planner = plan (called c) (c .buffer)
+    go reader = check (called c) (c .buffer)
 
 abbrev pub expected : Case → Outcome
 expected c = record { reply = c .reply; table = c .table-left; buffer = c .buffer-left }
@@ -353,90 +361,100 @@ k10-order =
       printed = [];
     }
 
+-- A call with its words; or a text that the program is given, and what it prints.
+pub data Entry : Type 0 where
+  call : Case → Entry
+  text : String → String → Entry
+
 -- The listing.
-abbrev pub cases : List Case
+abbrev pub cases : List Entry
 cases =
-    k1
-    ∷ k2
-    ∷ k3
-    ∷ k4
-    ∷ k4-settled
-    ∷ k5
-    ∷ k6
-    ∷ k6-conflict
-    ∷ k7
-    ∷ k8
-    ∷ k1-read
-    ∷ k9-strict
-    ∷ k9-weak
-    ∷ k9-false
-    ∷ k10-horizon
-    ∷ k10-stock
-    ∷ k10-order
+    call k1
+    ∷ text "100 0 10 0 2 0\n5 40 6 6\n0 30 -4 -4\n" "settled 1 2\n0 5 40 6 6\n1 5 30 -4 -4\n"
+    ∷ call k2
+    ∷ call k3
+    ∷ call k4
+    ∷ call k4-settled
+    ∷ call k5
+    ∷ call k6
+    ∷ call k6-conflict
+    ∷ call k7
+    ∷ call k8
+    ∷ call k1-read
+    ∷ call k9-strict
+    ∷ call k9-weak
+    ∷ call k9-false
+    ∷ call k10-horizon
+    ∷ call k10-stock
+    ∷ call k10-order
     ∷ []
 
 -- The definitions give each case's words, all of them, and the words that document 01 prints are among them.
-abbrev pub Right : List Case → Type 0
+abbrev pub Right : List Entry → Type 0
 Right [] = Unit {0}
-Right (c ∷ cs) =
+Right (call c ∷ cs) =
     (outcome c ≡ expected c)
     × (take (length (c .printed)) (c .buffer-left) ≡ c .printed)
     × Right cs
+Right (text given prints ∷ cs) = (program (bytes given) ≡ bytes prints) × Right cs
 
 pub all-right : Right cases
-unfolding plan check questions each run round events-from event-rules three-rules targets-from lags-from attempt acted premise-list slip-words premise-words quotes quoted any finding earliest sure-part most-in sum windows premises-at whole slip-at reading premises-fit names all-true narrowed gives slip-questions read-from read-all
+unfolding plan check questions own-questions each run made agenda each-of attempt acted premise-list slip-words premise-words quotes quoted any finding earliest sure-part most-in sum windows premises-at whole slip-at reading premises-fit names all-true narrowed gives slip-questions read-from read-all job-text numbers-behind digits-value job-of slip-room event-lines line-of integer numeral last-digits
 all-right = (
   refl, {- k1 -}
   refl,
   (
-    refl, {- k2 -}
-    refl,
+    refl, {- K1's text -}
     (
-      refl, {- k3 -}
+      refl, {- k2 -}
       refl,
       (
-        refl, {- k4 -}
+        refl, {- k3 -}
         refl,
         (
-          refl, {- k4-settled -}
+          refl, {- k4 -}
           refl,
           (
-            refl, {- k5 -}
+            refl, {- k4-settled -}
             refl,
             (
-              refl, {- k6 -}
+              refl, {- k5 -}
               refl,
               (
-                refl, {- k6-conflict -}
+                refl, {- k6 -}
                 refl,
                 (
-                  refl, {- k7 -}
+                  refl, {- k6-conflict -}
                   refl,
                   (
-                    refl, {- k8 -}
+                    refl, {- k7 -}
                     refl,
                     (
-                      refl, {- k1-read -}
+                      refl, {- k8 -}
                       refl,
                       (
-                        refl, {- k9-strict -}
+                        refl, {- k1-read -}
                         refl,
                         (
-                          refl, {- k9-weak -}
+                          refl, {- k9-strict -}
                           refl,
                           (
-                            refl, {- k9-false -}
+                            refl, {- k9-weak -}
                             refl,
                             (
-                              refl, {- k10-horizon -}
+                              refl, {- k9-false -}
                               refl,
                               (
-                                refl, {- k10-stock -}
+                                refl, {- k10-horizon -}
                                 refl,
                                 (
-                                  refl, {- k10-order -}
+                                  refl, {- k10-stock -}
                                   refl,
-                                  tt,
+                                  (
+                                    refl, {- k10-order -}
+                                    refl,
+                                    tt,
+                                  ),
                                 ),
                               ),
                             ),

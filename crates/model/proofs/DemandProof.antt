@@ -3,7 +3,7 @@
 use mathlib.Core.Path.{_≡_, refl, sym, ap, ap₂, _∙_}
 use mathlib.Core.Bool.{Bool, true, false, _&&_}
 use mathlib.Core.List.{List, [], _∷_, _++_}
-use Prim.Native.Nat.{ℕ, zero, suc, _+_, _/_, _≤_}
+use Prim.Native.Nat.{ℕ, zero, suc, _+_, _≤_}
 use native.Mathlib.Omega.{arith}
 use lib.Dec.{T, eqb, eqb→eq}
 use lib.IntN.{ℤ, pos, negsuc, natAbs}
@@ -12,24 +12,24 @@ use lib.Signed.{leZ, leZ-yes}
 use Rattle.integers.specs.Range.{eqZ}
 use Rattle.integers.proofs.Linear.{eqZ→}
 use Rattle.integers.proofs.Tests.{is-true, and-out, and-in}
-use Rattle.model.specs.Job.{End, t-min, t-max, h-min, h-max, meets, Windows, windows, widest, Job, job, Schedule, value, Inside, Legal}
+use Rattle.model.specs.Job.{End, t-min, t-max, h-min, h-max, meets, Windows, windows, widest, Job, Schedule, value, Inside, Legal, events, sent}
 use Rattle.model.specs.Rules.{own-end}
-use Rattle.model.specs.Slips.{Premise, Explanation, trailer, number}
+use Rattle.model.specs.Slips.{Premise, Explanation, trailer, number, at, end, premise-event, premise-end, rule-of, target-of, log-words, last-begins}
+use Rattle.model.specs.Agenda.{Each}
 use Rattle.model.specs.Rounds.{Verdict, conflict}
-use Rattle.model.specs.Questions.{Check, pass, refuse, _then_, questions}
+use Rattle.model.specs.Questions.{Check, pass, refuse, questions, _then_, ask}
 use Rattle.model.specs.Planner.{refused, done, Outcome, plan}
-use Rattle.model.specs.Reader.{at, end, premise-event, premise-end, rule-of, target-of, kind-fits, has-bound, names, all-true, gives, narrowed, is-conflict, applied, Read, read-all, stop-of, counted, marked, ends-right, accepted, judged, check}
+use Rattle.model.specs.Reader.{kind-fits, has-bound, names, all-true, gives, narrowed, is-conflict, applied, Read, read-all, stop-of, counted, marked, ends-right, accepted, judged, check}
+use Rattle.model.specs.Demand.{Has, HasPremises, HasConclusion, slips-of, listed, said, echoed, LegalPlan, Acceptance, Demand3}
 use Rattle.model.proofs.Order.{inside-refl, inside-trans}
 use Rattle.model.proofs.Questions.{then-out, ask-out, Asked, asked}
 use Rattle.model.proofs.Written.{replayed, conflicting-after}
-use Rattle.model.proofs.Words.{log-words, last-begins}
 use Rattle.model.proofs.Reading.{three-more, count-is}
 use Rattle.model.proofs.Accepted.{AllPassed, ReadOut, read-out, slips-from-length, all-kept}
 use Rattle.model.proofs.Sound.{named, Concludes, legal-in, stands-alone}
 use Rattle.model.proofs.Levels.{Signed, signed-within}
 use Rattle.model.proofs.Refusals.{not-done, check-refused, check-judged, plan-takes, planner-refuses, reader-refuses}
 use Rattle.model.proofs.Replay.{complete}
-use Rattle.model.proofs.Demand.{Has, Each, HasPremises, HasConclusion, slips-of, listed, said, echoed, LegalPlan, Acceptance, Demand3}
 
 -- ---- what a plan has, as tests
 
@@ -70,41 +70,38 @@ concluded-has p x t c = go (is-conflict x) refl
 -- ---- an accepted call
 
 -- How the reader ends after reading.
-judged-as : (table list : List ℤ) (r : Read) (t : Check) → (r .check then ends-right list r) ≡ t → judged table list r ≡
+judged-as : (j : Job) (list : List ℤ) (r : Read) (t : Check) → (r .check then ask 19 (ends-right list (r .after) (r .last))) ≡ t → judged j list r ≡
     (elim t [
-      | refuse n i ↦ record { reply = refused n i; table = table; buffer = list }
+      | refuse n i ↦ record { reply = refused n i; table = j .window-table; buffer = list }
       | pass ↦ record { reply = done (accepted (r .conflicting)) 0 0 0; table = r .table; buffer = list }
     ])
-judged-as table list r t e = rw (e, judged)
+judged-as j list r t e = rw (e, judged)
 
-module _ (h low high q : ℤ) (table lag-words : List ℤ) where
-  abbrev j : Job
-  j = job h low high q table lag-words
-
+module _ (j : Job) where
   abbrev left : List ℤ → Read
-  left list = read-all j table list
+  left list = read-all j list
 
   -- What an accepted call passed, and what it leaves.
   record Accepting (list : List ℤ) (v : Verdict) : Type 0 where
-    asks : questions j table (length list) ≡ pass
-    marks : marked list ≡ pass
+    asks : questions j (length list) ≡ pass
+    marks : T (marked list)
     reads : left list .check ≡ pass
-    ends : ends-right list (left list) ≡ pass
-    leaves : check h low high q table lag-words list ≡ record { reply = done (accepted (left list .conflicting)) 0 0 0; table = left list .table; buffer = list }
+    ends : T (ends-right list (left list .after) (left list .last))
+    leaves : check j list ≡ record { reply = done (accepted (left list .conflicting)) 0 0 0; table = left list .table; buffer = list }
     verdict : v ≡ accepted (left list .conflicting)
 
-  accepting : (list : List ℤ) (v : Verdict) (a b c : ℕ) → check h low high q table lag-words list .reply ≡ done v a b c → Accepting list v
-  accepting list v a b c e = go (questions j table (length list) then marked list) refl (left list .check then ends-right list (left list)) refl
+  accepting : (list : List ℤ) (v : Verdict) (a b c : ℕ) → check j list .reply ≡ done v a b c → Accepting list v
+  accepting list v a b c e = go (questions j (length list) then ask 12 (marked list)) refl (left list .check then ask 19 (ends-right list (left list .after) (left list .last))) refl
     where
-      go : (s : Check) → (questions j table (length list) then marked list) ≡ s → (t : Check) → (left list .check then ends-right list (left list)) ≡ t → Accepting list v
-      go (refuse n i) f t g = not-done (ap (λ (o : Outcome). o .reply) (check-refused h low high q table lag-words list n i f)) e
-      go pass f (refuse n i) g = not-done (ap (λ (o : Outcome). o .reply) (check-judged h low high q table lag-words list f ∙ judged-as table list (left list) (refuse n i) g)) e
+      go : (s : Check) → (questions j (length list) then ask 12 (marked list)) ≡ s → (t : Check) → (left list .check then ask 19 (ends-right list (left list .after) (left list .last))) ≡ t → Accepting list v
+      go (refuse n i) f t g = not-done (ap (λ (o : Outcome). o .reply) (check-refused j list n i f)) e
+      go pass f (refuse n i) g = not-done (ap (λ (o : Outcome). o .reply) (check-judged j list f ∙ judged-as j list (left list) (refuse n i) g)) e
       go pass f pass g =
-          let w = check-judged h low high q table lag-words list f ∙ judged-as table list (left list) pass g in
-          let x = then-out (questions j table (length list)) (marked list) f in
-          let y = then-out (left list .check) (ends-right list (left list)) g in
+          let w = check-judged j list f ∙ judged-as j list (left list) pass g in
+          let x = then-out (questions j (length list)) (ask 12 (marked list)) f in
+          let y = then-out (left list .check) (ask 19 (ends-right list (left list .after) (left list .last))) g in
           let z : done (accepted (left list .conflicting)) 0 0 0 ≡ done v a b c = rw w at e in
-          record { asks = x .0; marks = x .1; reads = y .0; ends = y .1; leaves = w; verdict = cc }
+          record { asks = x .0; marks = ask-out 12 (marked list) (x .1); reads = y .0; ends = ask-out 19 (ends-right list (left list .after) (left list .last)) (y .1); leaves = w; verdict = cc }
 
 -- ---- its slips
 
@@ -142,72 +139,69 @@ said-none (x ∷ []) h e = h .0 (accepted-conflict (is-conflict x) e)
 said-none (x ∷ (y ∷ ys)) h e = said-none (y ∷ ys) (h .1) e
 
 -- The trailer's words.
-trailer-there : (list : List ℤ) (last : ℕ) → 3 ≤ length list → marked list ≡ pass → at list (stop-of list + 1) ≡ pos last → drop (stop-of list) list ≡ trailer (natAbs (counted list)) last
+trailer-there : (list : List ℤ) (last : ℕ) → 3 ≤ length list → T (marked list) → at list (stop-of list + 1) ≡ pos last → drop (stop-of list) list ≡ trailer (natAbs (counted list)) last
 trailer-there list last l m e =
-    let t = and-out (eqZ (at list (stop-of list + 2)) (pos 4207)) (leZ (pos 0) (counted list)) (ask-out 12 (eqZ (at list (stop-of list + 2)) (pos 4207) && leZ (pos 0) (counted list)) m) in
+    let t = and-out (eqZ (at list (stop-of list + 2)) (pos 4207)) (leZ (pos 0) (counted list)) m in
     let mark = eqZ→ (at list (stop-of list + 2)) (pos 4207) (is-true _ (t .0)) in
     let count = count-is (counted list) (t .1) in
     let empty = drop-of-length-le list {i = stop-of list + 3} (omega arith) in
     let three = three-more list (stop-of list) (omega arith) in
     three ∙ ap₂ _∷_ count (ap₂ _∷_ e (ap₂ _∷_ mark empty))
 
-module _ (h low high q : ℤ) (table lag-words : List ℤ) (list : List ℤ) (v : Verdict) (a : Accepting h low high q table lag-words list v) where
-  abbrev the-job : Job
-  the-job = job h low high q table lag-words
-
+module _ (j : Job) (list : List ℤ) (v : Verdict) (a : Accepting j list v) where
   abbrev wide : Windows
-  wide = widest h (windows table)
+  wide = widest j
 
   abbrev xs : List Explanation
   xs = slips-of list
 
-  given : Asked h low high q table lag-words (length list)
-  given = asked h low high q table lag-words (length list) (a .asks)
+  given : Asked j (length list)
+  given = asked j (length list) (a .asks)
 
-  out : ReadOut the-job wide list (natAbs (counted list)) 0 0 false table (left h low high q table lag-words list)
+  out : ReadOut j wide list (natAbs (counted list)) 0 0 false (j .window-table) (left j list)
   unfolding read-all
-  out = read-out the-job wide list (stop-of list) (omega arith) (natAbs (counted list)) 0 0 0 false table (a .reads)
+  out = read-out j wide list (stop-of list) (omega arith) (natAbs (counted list)) 0 0 0 false (j .window-table) (a .reads)
 
   abbrev result : Read
-  result = left h low high q table lag-words list
+  result = left j list
 
   words-there : list ≡ listed xs
   words-there =
-      let t = and-out (eqb (result .after) (stop-of list)) (eqZ (at list (stop-of list + 1)) (pos (result .last))) (ask-out 19 (eqb (result .after) (stop-of list) && eqZ (at list (stop-of list + 1)) (pos (result .last))) (a .ends)) in
+      let t = and-out (eqb (result .after) (stop-of list)) (eqZ (at list (stop-of list + 1)) (pos (result .last))) (a .ends) in
       let there = eqb→eq (result .after) (stop-of list) (t .0) in
       let last = eqZ→ (at list (stop-of list + 1)) (pos (result .last)) (is-true _ (t .1)) in
       let tail = trailer-there list (last-begins 0 0 xs) (given .room-low) (a .marks) (last ∙ ap pos (out .last-there)) in
       out .words ∙ ap (λ (w : List ℤ). log-words xs ++ w) (ap (λ (i : ℕ). drop i list) there ∙ tail ∙ ap (λ (n : ℕ). trailer n (last-begins 0 0 xs)) (sym (slips-from-length list (natAbs (counted list)) 0)))
 
-  signs : Signed (the-job .events) wide
-  signs = signed-within (inside-refl (the-job .events) wide)
+  signs : Signed (events j) wide
+  signs = signed-within (inside-refl (events j) wide)
 
-  opened : (p : Schedule) → Legal the-job (windows table) p → Legal the-job wide p
+  opened : (p : Schedule) → Legal j (sent j) p → Legal j wide p
   opened p l = legal-in l (inside-trans (given .standing .within) (l .within))
 
-  kept : (p : Schedule) → Legal the-job (windows table) p → Inside (the-job .events) (windows (replayed table xs)) (value p) × Each (λ (x : Explanation). is-conflict x ≡ true → ⊥) xs
-  kept p l = all-kept the-job (given .sane) wide signs p (opened p l) xs table (given .whole-events) (out .all-passed) (l .within)
+  kept : (p : Schedule) → Legal j (sent j) p → Inside (events j) (windows (replayed (j .window-table) xs)) (value p) × Each (λ (x : Explanation). is-conflict x ≡ true → ⊥) xs
+  kept p l = all-kept j (given .sane) wide signs p (opened p l) xs (j .window-table) (given .whole-events) (out .all-passed) (l .within)
 
-  left-table : check h low high q table lag-words list .table ≡ replayed table xs
+  left-table : check j list .table ≡ replayed (j .window-table) xs
   left-table = ap (λ (o : Outcome). o .table) (a .leaves) ∙ out .table-left
 
-  all-passed : Each (λ (x : Explanation). T (names the-job x) × T (gives the-job (narrowed wide (x .premises)) x)) xs
-  all-passed = all-given the-job wide xs table (out .all-passed)
+  all-passed : Each (λ (x : Explanation). T (names j x) × T (gives j (narrowed wide (x .premises)) x)) xs
+  all-passed = all-given j wide xs (j .window-table) (out .all-passed)
 
-  one-alone : (x : Explanation) → T (names the-job x) × T (gives the-job (narrowed wide (x .premises)) x) → (p : Schedule) → Legal the-job wide p → HasPremises p x → HasConclusion p x
-  one-alone x g p l f = concluded-has p x (named the-job x (g .0) .kind-right) (stands-alone the-job wide p x (given .sane) signs l (g .0) (has-all p (x .premises) f) (g .1))
+  one-alone : (x : Explanation) → T (names j x) × T (gives j (narrowed wide (x .premises)) x) → (p : Schedule) → Legal j wide p → HasPremises p x → HasConclusion p x
+  one-alone x g p l f = concluded-has p x (named j x (g .0) .kind-right) (stands-alone j wide p x (given .sane) signs l (g .0) (has-all p (x .premises) f) (g .1))
 
   says : v ≡ said xs
   says = a .verdict ∙ ap accepted (out .conflict-last) ∙ all-said xs
 
   -- What acceptance means.
-  acceptance : Acceptance h low high q table lag-words list v
+  acceptance : Acceptance j list v
   acceptance =
       record {
         words = words-there;
         named = each-map xs (λ x g. g .0) all-passed;
         keeps = λ p l. rw left-table (kept p l .0);
-        none = each-map xs (λ x c e p l. c (p, l) (rw e)) (each-for (λ (x : Explanation) (i : (p : Schedule) × Legal the-job (windows table) p). is-conflict x ≡ true → ⊥) xs (λ i. kept (i .0) (i .1) .1));
+        none = each-map xs (λ x c e p l. c (p, l) (rw e)) (each-for (λ (x : Explanation) (i : (p : Schedule) × Legal j (sent j) p). is-conflict x ≡ true → ⊥) xs (λ i. kept (i .0) (i .1) .1));
         says = says;
         clash = λ e p l. said-none xs (kept p l .1) (sym says ∙ e);
         alone = each-map xs one-alone all-passed;
@@ -217,25 +211,25 @@ module _ (h low high q : ℤ) (table lag-words : List ℤ) (list : List ℤ) (v 
 -- ---- demand 3
 
 -- Demand 3, for every call, whatever words it is sent.
-pub demand3 : (h low high q : ℤ) (table lag-words : List ℤ) → Demand3 h low high q table lag-words
-demand3 h low high q table lag-words =
+pub demand3 : (j : Job) → Demand3 j
+demand3 j =
     record {
-      sound = λ list v a b c e. acceptance h low high q table lag-words list v (accepting h low high q table lag-words list v a b c e);
-      complete = complete h low high q table lag-words;
-      takes = plan-takes h low high q table lag-words;
-      reader-refuses = reader-refuses h low high q table lag-words;
-      planner-refuses = planner-refuses h low high q table lag-words;
+      sound = λ list v a b c e. acceptance j list v (accepting j list v a b c e);
+      complete = complete j;
+      takes = plan-takes j;
+      reader-refuses = reader-refuses j;
+      planner-refuses = planner-refuses j;
     }
 
 -- So every legal plan lies inside the windows that the planner leaves, and there is none where it says conflict.
-module _ (h low high q : ℤ) (table lag-words buffer : List ℤ) (v : Verdict) (slips rounds len : ℕ) (answer : plan h low high q table lag-words buffer .reply ≡ done v slips rounds len) where
-  replayed-list : Acceptance h low high q table lag-words (take len (plan h low high q table lag-words buffer .buffer)) (echoed v)
+module _ (j : Job) (buffer : List ℤ) (v : Verdict) (slips rounds len : ℕ) (answer : plan j buffer .reply ≡ done v slips rounds len) where
+  replayed-list : Acceptance j (take len (plan j buffer .buffer)) (echoed v)
   replayed-list =
-      let d = demand3 h low high q table lag-words in
-      d .sound (take len (plan h low high q table lag-words buffer .buffer)) (echoed v) 0 0 0 (d .complete buffer v slips rounds len answer .reply)
+      let d = demand3 j in
+      d .sound (take len (plan j buffer .buffer)) (echoed v) 0 0 0 (d .complete buffer v slips rounds len answer .reply)
 
-  pub planner-keeps : (p : Schedule) → LegalPlan h low high q table lag-words p → Inside (length table / 4) (windows (plan h low high q table lag-words buffer .table)) (value p)
-  planner-keeps p l = rw (demand3 h low high q table lag-words .complete buffer v slips rounds len answer .same-table) at (replayed-list .keeps p l)
+  pub planner-keeps : (p : Schedule) → LegalPlan j p → Inside (events j) (windows (plan j buffer .table)) (value p)
+  planner-keeps p l = rw (demand3 j .complete buffer v slips rounds len answer .same-table) at (replayed-list .keeps p l)
 
-  pub planner-clash : v ≡ conflict → (p : Schedule) → LegalPlan h low high q table lag-words p → ⊥
+  pub planner-clash : v ≡ conflict → (p : Schedule) → LegalPlan j p → ⊥
   planner-clash e p l = replayed-list .clash (ap echoed e) p l

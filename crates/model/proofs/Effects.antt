@@ -4,11 +4,11 @@ use mathlib.Core.Path.{_≡_, refl, sym, ap, _∙_}
 use mathlib.Core.Bool.{Bool, true, false, cond}
 use Prim.Native.Nat.{ℕ}
 use native.Mathlib.Omega.{arith}
-use lib.Dec.{T}
+use lib.Dec.{T, eqb}
 use lib.IntN.{ℤ}
-use Rattle.model.specs.Job.{End, t-min, t-max, h-min, h-max, opposite, meets, Windows}
-use Rattle.model.specs.Levels.{side-value, side-end, side}
-use Rattle.model.specs.Rules.{Finding, nothing, clash, bound, given-if, side-finding, Effect, idle, narrows, fails, effect, failed}
+use Rattle.model.specs.Job.{End, t-min, t-max, h-min, h-max, opposite, meets, Windows, Job}
+use Rattle.model.specs.View.{side-value, side-end, side}
+use Rattle.model.specs.Rules.{Finding, nothing, clash, bound, given-if, side-finding, Effect, idle, narrows, fails, effect, failed, Family, level, time, height, reservoir, target-fits}
 use Rattle.model.specs.Reader.{as-strict}
 use Rattle.model.proofs.Sides.{side-value-twice, side-meets}
 
@@ -71,3 +71,16 @@ pub strict-side : (m : Bool) (k : End) (v : ℤ) (f : Finding) → as-strict (si
 strict-side m k v nothing = refl
 strict-side m k v clash = refl
 strict-side m k v (bound w) = across m k v (side-value m k w) ∙ ap (meets k v) (side-value-twice m k w)
+
+-- ---- targets
+
+-- The targets of a family at e.
+abbrev pub aims : Family → ℕ → ℕ → Bool
+aims level e y = eqb y e
+aims time e y = eqb y e
+aims height e y = true
+
+pub fits-aims : (m b : Bool) (f : Family) (j : Job) (e y : ℕ) → T (target-fits (reservoir m b f) j e y) → T (aims f e y)
+fits-aims m b level j e y t = t
+fits-aims m b time j e y t = t
+fits-aims m b height j e y t = tt

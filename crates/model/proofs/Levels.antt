@@ -10,8 +10,9 @@ use Rattle.integers.specs.Sum.{sum}
 use Rattle.integers.proofs.Linear.{ints, add-law}
 use Rattle.integers.proofs.Sums.{sum-le}
 use Rattle.integers.proofs.Tests.{same-test, is-true}
-use Rattle.model.specs.Job.{t-min, t-max, h-min, h-max, Windows, Inside, Reservoir, produces, consumes, widest}
-use Rattle.model.specs.Levels.{Switch, ahead, Place, sure, possible, never, placed, place, gain, gains, most-in}
+use Rattle.model.specs.Job.{t-min, t-max, h-min, h-max, Windows, Inside, produces, consumes, widest, Job, sent, ahead}
+use Rattle.model.specs.View.{View}
+use Rattle.model.specs.Levels.{Place, sure, possible, never, placed, place, gain, gains, most-in}
 use Rattle.model.specs.Rules.{targeted}
 
 -- ---- order
@@ -114,9 +115,9 @@ gain-weaker never never m n w h = omega ints
 -- ---- the level
 
 -- The opening stock, and what each event adds.
-most-is : (s : Switch) (n : ℕ) (c : Reservoir) (W : Windows) (e : ℕ) (u v : ℤ) → most-in s n c W e u v ≡ c .initial +ℤ sum n (gains s W e u v)
+most-is : (E : View) (W : Windows) (u v : ℤ) → most-in E W u v ≡ E .opening +ℤ sum (E .events) (gains E W u v)
 unfolding most-in
-most-is s n c W e u v = refl
+most-is E W u v = refl
 
 -- The windows X are no narrower than W, whose times are not empty, and e's range u′..v′ in X no narrower than u..v in W.
 pub record Wider (n : ℕ) (W X : Windows) (u v u′ v′ : ℤ) : Type 0 where
@@ -126,8 +127,8 @@ pub record Wider (n : ℕ) (W X : Windows) (u v u′ v′ : ℤ) : Type 0 where
   pub range : u ≤ℤ v
   pub to : v ≤ℤ v′
 
-module _ (s : Switch) (c : Reservoir) (e : ℕ) {n : ℕ} {W X : Windows} {u v u′ v′ : ℤ} (w : Wider n W X u v u′ v′) where
-  pub place-weaker : (y : ℕ) → y < n → Weaker (place s W e u v y) (place s X e u′ v′ y)
+module _ (E : View) {W X : Windows} {u v u′ v′ : ℤ} (w : Wider (E .events) W X u v u′ v′) where
+  pub place-weaker : (y : ℕ) → y < E .events → Weaker (place E W u v y) (place E X u′ v′ y)
   place-weaker y l =
       let a = w .from in
       let b = w .range in
@@ -135,43 +136,43 @@ module _ (s : Switch) (c : Reservoir) (e : ℕ) {n : ℕ} {W X : Windows} {u v u
       let i : T (leZ (X y t-min) (W y t-min)) = w .windows .inside y l t-min in
       let k : T (leZ (W y t-max) (X y t-max)) = w .windows .inside y l t-max in
       let o = w .times y l in
-      placed-weaker (eqb y e) (s y)
-      (ahead (s y) (W y t-max) u)
-      (ahead (s y) (W y t-min) v)
-      (ahead (s y) (X y t-max) u′)
-      (ahead (s y) (X y t-min) v′)
-      (ahead-le (s y) (X y t-max) u′ (W y t-max) u (omega ints) (omega ints))
-      (ahead-le (s y) (W y t-min) v (X y t-min) v′ (omega ints) (omega ints))
-      (ahead-le (s y) (W y t-max) u (X y t-min) v′ (omega ints) (omega ints))
+      placed-weaker (eqb y (E .subject)) (E .before y)
+      (ahead (E .before y) (W y t-max) u)
+      (ahead (E .before y) (W y t-min) v)
+      (ahead (E .before y) (X y t-max) u′)
+      (ahead (E .before y) (X y t-min) v′)
+      (ahead-le (E .before y) (X y t-max) u′ (W y t-max) u (omega ints) (omega ints))
+      (ahead-le (E .before y) (W y t-min) v (X y t-min) v′ (omega ints) (omega ints))
+      (ahead-le (E .before y) (W y t-max) u (X y t-min) v′ (omega ints) (omega ints))
 
-  pub gains-weaker : (y : ℕ) → y < n → gains s W e u v y ≤ℤ gains s X e u′ v′ y
+  pub gains-weaker : (y : ℕ) → y < E .events → gains E W u v y ≤ℤ gains E X u′ v′ y
   gains-weaker y l =
-      gain-weaker (place s W e u v y) (place s X e u′ v′ y) (W y h-max) (X y h-max) (place-weaker y l) (record { le = w .windows .inside y l h-max })
+      gain-weaker (place E W u v y) (place E X u′ v′ y) (W y h-max) (X y h-max) (place-weaker y l) (record { le = w .windows .inside y l h-max })
 
-  pub most-weaker : most-in s n c W e u v ≤ℤ most-in s n c X e u′ v′
+  pub most-weaker : most-in E W u v ≤ℤ most-in E X u′ v′
   most-weaker =
-      rw (most-is s n c W e u v, most-is s n c X e u′ v′)
-      (add-le (c .initial) (sum n (gains s W e u v)) (sum n (gains s X e u′ v′)) (sum-le n (gains s W e u v) (gains s X e u′ v′) gains-weaker))
+      rw (most-is E W u v, most-is E X u′ v′)
+      (add-le (E .opening) (sum (E .events) (gains E W u v)) (sum (E .events) (gains E X u′ v′)) (sum-le (E .events) (gains E W u v) (gains E X u′ v′) gains-weaker))
 
 -- ---- the level rises with e's latest minute
 
-module _ (s : Switch) (n : ℕ) (c : Reservoir) (W : Windows) (e : ℕ) (u v v′ : ℤ) (h : v ≤ℤ v′) where
-  pub place-later : (y : ℕ) → Weaker (place s W e u v y) (place s W e u v′ y)
+module _ (E : View) (W : Windows) (u v v′ : ℤ) (h : v ≤ℤ v′) where
+  pub place-later : (y : ℕ) → Weaker (place E W u v y) (place E W u v′ y)
   place-later y =
-      placed-later (eqb y e) (s y)
-      (ahead (s y) (W y t-max) u)
-      (ahead (s y) (W y t-min) v)
-      (ahead (s y) (W y t-min) v′)
-      (ahead-le (s y) (W y t-min) v (W y t-min) v′ (omega ints) (omega ints))
+      placed-later (eqb y (E .subject)) (E .before y)
+      (ahead (E .before y) (W y t-max) u)
+      (ahead (E .before y) (W y t-min) v)
+      (ahead (E .before y) (W y t-min) v′)
+      (ahead-le (E .before y) (W y t-min) v (W y t-min) v′ (omega ints) (omega ints))
 
-  pub gains-later : (y : ℕ) → gains s W e u v y ≤ℤ gains s W e u v′ y
+  pub gains-later : (y : ℕ) → gains E W u v y ≤ℤ gains E W u v′ y
   gains-later y =
-      gain-weaker (place s W e u v y) (place s W e u v′ y) (W y h-max) (W y h-max) (place-later y) (omega ints)
+      gain-weaker (place E W u v y) (place E W u v′ y) (W y h-max) (W y h-max) (place-later y) (omega ints)
 
-  pub most-later : most-in s n c W e u v ≤ℤ most-in s n c W e u v′
+  pub most-later : most-in E W u v ≤ℤ most-in E W u v′
   most-later =
-      rw (most-is s n c W e u v, most-is s n c W e u v′)
-      (add-le (c .initial) (sum n (gains s W e u v)) (sum n (gains s W e u v′)) (sum-le n (gains s W e u v) (gains s W e u v′) (λ y l. gains-later y)))
+      rw (most-is E W u v, most-is E W u v′)
+      (add-le (E .opening) (sum (E .events) (gains E W u v)) (sum (E .events) (gains E W u v′)) (sum-le (E .events) (gains E W u v) (gains E W u v′) (λ y l. gains-later y)))
 
 -- ---- targets
 
@@ -208,12 +209,12 @@ widest-signs false true low high a b = (λ t. omega ints, λ t. omega ints)
 widest-signs false false low high a b = (λ t. omega ints, λ t. omega ints)
 
 -- Windows inside the widest ones are signed.
-pub signed-within : {n : ℕ} {h : ℤ} {sent W : Windows} → Inside n (widest h sent) W → Signed n W
-signed-within {n} {h} {sent} {W} i = record { producers = λ y l. both y l .0; consumers = λ y l. both y l .1 }
+pub signed-within : {n : ℕ} {j : Job} {W : Windows} → Inside n (widest j) W → Signed n W
+signed-within {n} {j} {W} i = record { producers = λ y l. both y l .0; consumers = λ y l. both y l .1 }
   where
     both : (y : ℕ) → y < n → (T (produces (W y h-max)) → pos 0 <ℤ W y h-min) × (T (consumes (W y h-min)) → W y h-max <ℤ pos 0)
     both y l =
-        widest-signs (produces (sent y h-max)) (consumes (sent y h-max)) (W y h-min) (W y h-max) (record { le = i .inside y l h-min }) (record { le = i .inside y l h-max })
+        widest-signs (produces (sent j y h-max)) (consumes (sent j y h-max)) (W y h-min) (W y h-max) (record { le = i .inside y l h-min }) (record { le = i .inside y l h-max })
 
 -- Narrower windows have the same signs.
 module _ {n : ℕ} {W X : Windows} (i : Inside n X W) (signs : Signed n X) (full : (y : ℕ) → y < n → W y h-min ≤ℤ W y h-max) (y : ℕ) (l : y < n) where

@@ -1,6 +1,6 @@
 pub mod Cases
+pub mod Texts
 pub mod Questions
-pub mod Standing
 pub mod Order
 pub mod Levels
 pub mod Time
@@ -15,7 +15,6 @@ pub mod Sweeps
 pub mod Silence
 pub mod Written
 pub mod Rounds
-pub mod Demand
 pub mod Sound
 pub mod Adding
 pub mod Agree

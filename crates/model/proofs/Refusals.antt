@@ -8,16 +8,16 @@ use native.Mathlib.Omega.{arith}
 use lib.IntN.{ℤ}
 use lib.ListN.{length, take, drop, set, length-append, length-drop, length-set}
 use lib.Seq.{take-append-add, drop-append-add}
-use Rattle.model.specs.Job.{slot, Windows, windows, Job, job}
+use Rattle.model.specs.Job.{slot, Windows, windows, Job}
 use Rattle.model.specs.Rules.{own-end}
-use Rattle.model.specs.Slips.{Explanation, trailer}
+use Rattle.model.specs.Slips.{Explanation, trailer, rule-of, target-of}
 use Rattle.model.specs.Rounds.{Verdict, State, Run, run, start}
-use Rattle.model.specs.Questions.{Check, pass, refuse, _then_, questions}
+use Rattle.model.specs.Questions.{Check, pass, refuse, questions, _then_, ask}
 use Rattle.model.specs.Planner.{Reply, refused, done, Outcome, written, planned, plan}
-use Rattle.model.specs.Reader.{Reading, slip, cut, reading, rule-of, target-of, is-conflict, slip-questions, applied, Read, read-from, marked, ends-right, read-all, accepted, judged, check}
+use Rattle.model.specs.Reader.{Reading, slip, cut, reading, is-conflict, slip-questions, applied, Read, read-from, marked, ends-right, read-all, accepted, judged, check}
+use Rattle.model.specs.Demand.{Untouched}
 use Rattle.model.proofs.Questions.{asked}
 use Rattle.model.proofs.Rounds.{Finished, plan-finished}
-use Rattle.model.proofs.Demand.{Untouched}
 
 -- A refusal is no answer.
 pub not-done : {A : Type 0} {o : Reply} {number place slips rounds len : ℕ} {v : Verdict} → o ≡ refused number place → o ≡ done v slips rounds len → A
@@ -68,39 +68,39 @@ read-length j wide list stop (suc k) i p last c table = by-reading (λ next d t.
     by-reading rec cut = refl
     by-reading rec (slip x next) = by-questions x next (slip-questions j wide (windows table) x k) (rec next (is-conflict x) (applied table x))
 
-read-all-length : (j : Job) (table list : List ℤ) → length (read-all j table list .table) ≡ length table
+read-all-length : (j : Job) (list : List ℤ) → length (read-all j list .table) ≡ length (j .window-table)
 unfolding read-all
-read-all-length j table list = read-length j _ list _ _ 0 0 0 false table
+read-all-length j list = read-length j _ list _ _ 0 0 0 false (j .window-table)
 
--- H, Lmin, Lmax, Q, window table, lag table.
-module _ (h low high q : ℤ) (table lag-words : List ℤ) where
+-- A call of a job.
+module _ (j : Job) where
   abbrev asks : ℕ → Check
-  asks room = questions (job h low high q table lag-words) table room
+  asks room = questions j room
 
   -- The run of a call with a slip buffer.
   abbrev pub run-in : List ℤ → Run
-  run-in buffer = run (length buffer) (job h low high q table lag-words) (length buffer) 0 (start table)
+  run-in buffer = run (length buffer) j (length buffer) 0 (start (j .window-table))
 
   -- ---- the planner
 
   module _ (buffer : List ℤ) where
     -- A call goes by its questions.
-    pub plan-refused : (number place : ℕ) → asks (length buffer) ≡ refuse number place → plan h low high q table lag-words buffer ≡ record { reply = refused number place; table = table; buffer = buffer }
+    pub plan-refused : (number place : ℕ) → asks (length buffer) ≡ refuse number place → plan j buffer ≡ record { reply = refused number place; table = j .window-table; buffer = buffer }
     unfolding plan
     plan-refused number place e = rw (e, plan)
 
-    pub plan-planned : asks (length buffer) ≡ pass → plan h low high q table lag-words buffer ≡ planned (run-in buffer) buffer
+    pub plan-planned : asks (length buffer) ≡ pass → plan j buffer ≡ planned (run-in buffer) buffer
     unfolding plan
     plan-planned e = rw (e, plan)
 
     -- A call that passed its questions is done.
-    pub plan-takes : asks (length buffer) ≡ pass → (v : Verdict) × (slips : ℕ) × (rounds : ℕ) × (len : ℕ) × (plan h low high q table lag-words buffer .reply ≡ done v slips rounds len)
+    pub plan-takes : asks (length buffer) ≡ pass → (v : Verdict) × (slips : ℕ) × (rounds : ℕ) × (len : ℕ) × (plan j buffer .reply ≡ done v slips rounds len)
     plan-takes e =
         let r = run-in buffer in
         (r .verdict, r .state .slips, r .rounds, length (r .state .log) + 3, ap (λ (o : Outcome). o .reply) (plan-planned e))
 
     -- A call that is done passed its questions.
-    pub plan-passed : (v : Verdict) (slips rounds len : ℕ) → plan h low high q table lag-words buffer .reply ≡ done v slips rounds len → asks (length buffer) ≡ pass
+    pub plan-passed : (v : Verdict) (slips rounds len : ℕ) → plan j buffer .reply ≡ done v slips rounds len → asks (length buffer) ≡ pass
     plan-passed v slips rounds len e = go (asks (length buffer)) refl
       where
         go : (c : Check) → asks (length buffer) ≡ c → asks (length buffer) ≡ pass
@@ -108,33 +108,33 @@ module _ (h low high q : ℤ) (table lag-words : List ℤ) where
         go (refuse number place) f = not-done (ap (λ (o : Outcome). o .reply) (plan-refused number place f)) e
 
     -- A refused call changes no lent word.
-    pub planner-refuses : (number place : ℕ) → plan h low high q table lag-words buffer .reply ≡ refused number place → Untouched h low high q table lag-words buffer (plan h low high q table lag-words buffer)
+    pub planner-refuses : (number place : ℕ) → plan j buffer .reply ≡ refused number place → Untouched j buffer (plan j buffer)
     planner-refuses number place e = go (asks (length buffer)) refl
       where
-        go : (c : Check) → asks (length buffer) ≡ c → Untouched h low high q table lag-words buffer (plan h low high q table lag-words buffer)
+        go : (c : Check) → asks (length buffer) ≡ c → Untouched j buffer (plan j buffer)
         go pass f = not-done e (ap (λ (o : Outcome). o .reply) (plan-planned f))
         go (refuse n i) f = rw (plan-refused n i f) (record { same-table = refl; same-buffer = refl })
 
     -- The run of a call that passed its questions.
-    pub run-finished : asks (length buffer) ≡ pass → Finished (length buffer) (job h low high q table lag-words) table 0 0 (run-in buffer)
+    pub run-finished : asks (length buffer) ≡ pass → Finished (length buffer) j 0 0 (run-in buffer)
     run-finished e =
-        let a = asked h low high q table lag-words (length buffer) e in
-        plan-finished (length buffer) (job h low high q table lag-words) table (a .sane) (a .whole-events) (a .standing) (a .room-low)
+        let a = asked j (length buffer) e in
+        plan-finished (length buffer) j (a .sane) (a .whole-events) (a .standing) (a .room-low)
 
     -- The lent tables keep their lengths.
-    pub plan-lengths : (length (plan h low high q table lag-words buffer .table) ≡ length table) × (length (plan h low high q table lag-words buffer .buffer) ≡ length buffer)
+    pub plan-lengths : (length (plan j buffer .table) ≡ length (j .window-table)) × (length (plan j buffer .buffer) ≡ length buffer)
     plan-lengths = go (asks (length buffer)) refl
       where
-        go : (c : Check) → asks (length buffer) ≡ c → (length (plan h low high q table lag-words buffer .table) ≡ length table) × (length (plan h low high q table lag-words buffer .buffer) ≡ length buffer)
+        go : (c : Check) → asks (length buffer) ≡ c → (length (plan j buffer .table) ≡ length (j .window-table)) × (length (plan j buffer .buffer) ≡ length buffer)
         go pass f =
             let k = run-finished f .kept in
-            let a = asked h low high q table lag-words (length buffer) f in
+            let a = asked j (length buffer) f in
             rw (plan-planned f) (k .whole ∙ sym (a .whole-events), written-length (run-in buffer .state) buffer (k .trailer-fits))
         go (refuse n i) f = rw (plan-refused n i f) (refl, refl)
 
     -- Words after the written trailer keep what they held, and the list fits the room.
-    pub plan-rest : (v : Verdict) (slips rounds len : ℕ) → plan h low high q table lag-words buffer .reply ≡ done v slips rounds len →
-        (drop len (plan h low high q table lag-words buffer .buffer) ≡ drop len buffer) × (3 ≤ len) × (len ≤ length buffer)
+    pub plan-rest : (v : Verdict) (slips rounds len : ℕ) → plan j buffer .reply ≡ done v slips rounds len →
+        (drop len (plan j buffer .buffer) ≡ drop len buffer) × (3 ≤ len) × (len ≤ length buffer)
     plan-rest v slips rounds len e =
         let f = plan-passed v slips rounds len e in
         let s = run-in buffer .state in
@@ -146,29 +146,29 @@ module _ (h low high q : ℤ) (table lag-words : List ℤ) where
 
   module _ (list : List ℤ) where
     -- A call goes by its questions.
-    pub check-refused : (number place : ℕ) → (asks (length list) then marked list) ≡ refuse number place → check h low high q table lag-words list ≡ record { reply = refused number place; table = table; buffer = list }
+    pub check-refused : (number place : ℕ) → (asks (length list) then ask 12 (marked list)) ≡ refuse number place → check j list ≡ record { reply = refused number place; table = j .window-table; buffer = list }
     unfolding check
     check-refused number place e = rw (e, check)
 
-    pub check-judged : (asks (length list) then marked list) ≡ pass → check h low high q table lag-words list ≡ judged table list (read-all (job h low high q table lag-words) table list)
+    pub check-judged : (asks (length list) then ask 12 (marked list)) ≡ pass → check j list ≡ judged j list (read-all j list)
     unfolding check
     check-judged e = rw (e, check)
 
-    judged-handed : (r : Read) → length (r .table) ≡ length table → Handed table list (judged table list r)
-    judged-handed r long = go (r .check then ends-right list r)
+    judged-handed : (r : Read) → length (r .table) ≡ length (j .window-table) → Handed (j .window-table) list (judged j list r)
+    judged-handed r long = go (r .check then ask 19 (ends-right list (r .after) (r .last)))
       where
-        go : (c : Check) → Handed table list (elim c [ refuse n i ↦ record { reply = refused n i; table = table; buffer = list } | pass ↦ record { reply = done (accepted (r .conflicting)) 0 0 0; table = r .table; buffer = list } ])
+        go : (c : Check) → Handed (j .window-table) list (elim c [ refuse n i ↦ record { reply = refused n i; table = j .window-table; buffer = list } | pass ↦ record { reply = done (accepted (r .conflicting)) 0 0 0; table = r .table; buffer = list } ])
         go (refuse n i) = record { same-list = refl; same-length = refl; untouched = λ _ _ _. refl }
         go pass = record { same-list = refl; same-length = long; untouched = λ n i e. not-done e refl }
 
     -- The reader leaves its list as it was and keeps the window table's length.
-    pub check-handed : Handed table list (check h low high q table lag-words list)
-    check-handed = go (asks (length list) then marked list) refl
+    pub check-handed : Handed (j .window-table) list (check j list)
+    check-handed = go (asks (length list) then ask 12 (marked list)) refl
       where
-        go : (c : Check) → (asks (length list) then marked list) ≡ c → Handed table list (check h low high q table lag-words list)
-        go pass e = rw (check-judged e) (judged-handed (read-all (job h low high q table lag-words) table list) (read-all-length (job h low high q table lag-words) table list))
+        go : (c : Check) → (asks (length list) then ask 12 (marked list)) ≡ c → Handed (j .window-table) list (check j list)
+        go pass e = rw (check-judged e) (judged-handed (read-all j list) (read-all-length j list))
         go (refuse n i) e = rw (check-refused n i e) (record { same-list = refl; same-length = refl; untouched = λ _ _ _. refl })
 
     -- A refused call changes no lent word.
-    pub reader-refuses : (number place : ℕ) → check h low high q table lag-words list .reply ≡ refused number place → Untouched h low high q table lag-words list (check h low high q table lag-words list)
+    pub reader-refuses : (number place : ℕ) → check j list .reply ≡ refused number place → Untouched j list (check j list)
     reader-refuses number place e = record { same-table = check-handed .untouched number place e; same-buffer = check-handed .same-list }

@@ -9,14 +9,15 @@ use borrow.Author.Tests.{eqb-true, eqb-false}
 use lib.Dec.{T, eqb, leb→le}
 use lib.IntN.{ℤ}
 use lib.ListN.{length, set, length-append}
-use Rattle.model.specs.Job.{slot, windows, Job}
+use Rattle.model.specs.Job.{slot, windows, Job, events, sent}
+use Rattle.model.specs.Standing.{Sane, Standing}
 use Rattle.model.specs.Rules.{rule, own-end, narrows, fails}
-use Rattle.model.specs.Slips.{Explanation, slip-words}
+use Rattle.model.specs.Slips.{Explanation, slip-words, log-words, last-begins}
+use Rattle.model.specs.Agenda.{Valid}
 use Rattle.model.specs.Rounds.{Verdict, settled, conflict, stopped, still-open, Status, running, ended, State, fits, attempt, round, Run, run, start}
 use Rattle.model.specs.Reader.{applied}
-use Rattle.model.proofs.Standing.{Sane, Standing}
-use Rattle.model.proofs.Words.{Formed, All-formed, all-formed-snoc, log-words, log-words-snoc, log-words-length, last-begins, last-begins-snoc}
-use Rattle.model.proofs.Sweeps.{Valid, round-keeps, slip-on, with-slip, Step, same, stops, narrowed, failing, attempt-step}
+use Rattle.model.proofs.Words.{Formed, All-formed, all-formed-snoc, log-words-snoc, log-words-length, last-begins-snoc}
+use Rattle.model.proofs.Sweeps.{round-keeps, slip-on, with-slip, Step, same, stops, narrowed, failing, attempt-step}
 use Rattle.model.proofs.Written.{Wrote, formed-explanation, narrows-kind, narrows-applied, replayed, Written, Narrowings, Conflict-last, conflicting-after, replayed-snoc, written-snoc, narrowings-snoc, conflict-last-snoc, conflicting-snoc, wrote-standing}
 
 -- ---- the state of a call
@@ -31,27 +32,27 @@ Status-fits (ended still-open) xs = ⊥
 
 -- What holds of the state throughout a call that was sent a window table: its list is the words of the slips written, its table what they make of the one sent,
 -- its counts are theirs, and the trailer fits the room.
-pub record Kept (room : ℕ) (j : Job) (sent : List ℤ) (s : State) : Type 0 where
+pub record Kept (room : ℕ) (j : Job) (s : State) : Type 0 where
   pub slips-written : List Explanation
   pub log-is : s .log ≡ log-words slips-written
   pub count-is : s .slips ≡ length slips-written
   pub last-is : s .last ≡ last-begins 0 0 slips-written
-  pub table-is : s .table ≡ replayed sent slips-written
-  pub written : Written j sent slips-written
+  pub table-is : s .table ≡ replayed (j .window-table) slips-written
+  pub written : Written j (j .window-table) slips-written
   pub formed : All-formed slips-written
   pub conflict-last : Conflict-last slips-written
   pub status-fits : Status-fits (s .status) slips-written
-  pub whole : length (s .table) ≡ 4 * j .events
-  pub standing : Standing j (windows sent) (windows (s .table))
+  pub whole : length (s .table) ≡ 4 * events j
+  pub standing : Standing j (windows (s .table))
   pub trailer-fits : length (s .log) + 3 ≤ room
 
 -- Each slip takes seven words and more.
-pub slips-room : (room : ℕ) (j : Job) (sent : List ℤ) (s : State) → Kept room j sent s → 7 * s .slips ≤ length (s .log)
-slips-room room j sent s k = omega (arith, k .count-is, ap length (k .log-is), log-words-length (k .slips-written))
+pub slips-room : (room : ℕ) (j : Job) (s : State) → Kept room j s → 7 * s .slips ≤ length (s .log)
+slips-room room j s k = omega (arith, k .count-is, ap length (k .log-is), log-words-length (k .slips-written))
 
-module _ (room : ℕ) (j : Job) (sent : List ℤ) where
+module _ (room : ℕ) (j : Job) where
   -- It holds at the start.
-  pub start-kept : length sent ≡ 4 * j .events → Standing j (windows sent) (windows sent) → 3 ≤ room → Kept room j sent (start sent)
+  pub start-kept : length (j .window-table) ≡ 4 * events j → Standing j (sent j) → 3 ≤ room → Kept room j (start (j .window-table))
   unfolding log-words last-begins replayed
   start-kept long std fit =
       record {
@@ -70,19 +71,19 @@ module _ (room : ℕ) (j : Job) (sent : List ℤ) where
       }
 
   -- One slip more.
-  slip-kept : (s : State) (k : Kept room j sent s) (x : Explanation) (table : List ℤ) (status : Status) → s .status ≡ running → Wrote j (s .table) x → Formed x → table ≡ applied (s .table) x →
-      T (fits room (s .log) (slip-words x)) → Status-fits status (k .slips-written ++ (x ∷ [])) → Kept room j sent (with-slip s x table status)
+  slip-kept : (s : State) (k : Kept room j s) (x : Explanation) (table : List ℤ) (status : Status) → s .status ≡ running → Wrote j (s .table) x → Formed x → table ≡ applied (s .table) x →
+      T (fits room (s .log) (slip-words x)) → Status-fits status (k .slips-written ++ (x ∷ [])) → Kept room j (with-slip s x table status)
   slip-kept s k x table status on w f is room-for ends =
       let xs = k .slips-written in
-      let after = wrote-standing j (windows sent) (s .table) x (k .whole) (k .standing) w in
+      let after = wrote-standing j (s .table) x (k .whole) (k .standing) w in
       let none : Narrowings xs = rw on at (k .status-fits) in
       record {
         slips-written = xs ++ (x ∷ []);
         log-is = rw (k .log-is, log-words-snoc);
         count-is = omega (arith, k .count-is, length-append xs (x ∷ []));
         last-is = omega (arith, ap length (k .log-is), last-begins-snoc xs x 0 0);
-        table-is = is ∙ ap (λ t. applied t x) (k .table-is) ∙ sym (replayed-snoc xs x sent);
-        written = written-snoc j xs x sent (k .written) (rw (k .table-is) at w);
+        table-is = is ∙ ap (λ t. applied t x) (k .table-is) ∙ sym (replayed-snoc xs x (j .window-table));
+        written = written-snoc j xs x (j .window-table) (k .written) (rw (k .table-is) at w);
         formed = all-formed-snoc xs x (k .formed) f;
         conflict-last = conflict-last-snoc xs x none;
         status-fits = ends;
@@ -92,7 +93,7 @@ module _ (room : ℕ) (j : Job) (sent : List ℤ) where
       }
 
   module _ (sane : Sane j) where
-    step-kept : (r e y : ℕ) → Valid j r e y → (s t : State) → Step room r j e y s t → Kept room j sent s → Kept room j sent t
+    step-kept : (r e y : ℕ) → Valid j r e y → (s t : State) → Step room r j e y s t → Kept room j s → Kept room j t
     step-kept r e y v s t same k = k
     step-kept r e y v s t (stops on) k =
         record {
@@ -113,23 +114,23 @@ module _ (room : ℕ) (j : Job) (sent : List ℤ) where
         let x = slip-on r j e y s (narrows b) in
         let w : Wrote j (s .table) x = record { r = r; e = e; y = y; outcome = narrows b; valid = v; outcome-is = sym is; busy = λ q. let z : _≡_ {A = ℕ} 0 1 = cc in omega arith; slip-is = refl } in
         slip-kept s k x (set (s .table) (slot y (own-end (rule r))) b) running on w
-        (formed-explanation j sane (windows (s .table)) r e y (narrows b) (v .rule-low) (v .rule-high))
+        (formed-explanation j sane (windows (s .table)) r e y (narrows b) (v .known))
         (sym (narrows-applied j (windows (s .table)) r e y b (s .table))) room-for
         (narrowings-snoc (k .slips-written) x (rw on at (k .status-fits)) (narrows-kind j (windows (s .table)) r e y b))
     step-kept r e y v s t (failing on is room-for) k =
         let x = slip-on r j e y s fails in
         let w : Wrote j (s .table) x = record { r = r; e = e; y = y; outcome = fails; valid = v; outcome-is = sym is; busy = λ q. let z : _≡_ {A = ℕ} 0 1 = cc in omega arith; slip-is = refl } in
         slip-kept s k x (s .table) (ended conflict) on w
-        (formed-explanation j sane (windows (s .table)) r e y fails (v .rule-low) (v .rule-high))
+        (formed-explanation j sane (windows (s .table)) r e y fails (v .known))
         refl room-for
         (rw (conflicting-snoc (k .slips-written) x false) tt)
 
     -- Every attempt keeps it, and every round.
-    pub attempt-kept : (r e y : ℕ) → Valid j r e y → (s : State) → Kept room j sent s → Kept room j sent (attempt room r j e y s)
+    pub attempt-kept : (r e y : ℕ) → Valid j r e y → (s : State) → Kept room j s → Kept room j (attempt room r j e y s)
     attempt-kept r e y v s k = step-kept r e y v s (attempt room r j e y s) (attempt-step room r j e y s) k
 
-    pub round-kept : (s : State) → Kept room j sent s → Kept room j sent (round room j s)
-    round-kept s k = round-keeps room j sane (Kept room j sent) attempt-kept s k
+    pub round-kept : (s : State) → Kept room j s → Kept room j (round room j s)
+    round-kept s k = round-keeps room j (Kept room j) attempt-kept sane s k
 
 -- ---- what a round changes
 
@@ -151,7 +152,7 @@ module _ (room : ℕ) (j : Job) where
 
   pub round-onward : Sane j → (s : State) → Onward s (round room j s)
   round-onward sane s =
-      round-keeps room j sane (Onward s) (λ r e y v t o. step-onward r e y s t (attempt room r j e y t) (attempt-step room r j e y t) o) s
+      round-keeps room j (Onward s) (λ r e y v t o. step-onward r e y s t (attempt room r j e y t) (attempt-step room r j e y t) o) sane s
       (record { more = omega arith; unmoved = λ p q. refl })
 
 -- ---- the run
@@ -175,12 +176,12 @@ module _ (room : ℕ) (j : Job) where
   runs-unique r t n s (goes-on on some more) (settles _ none is) = absurd (some none)
   runs-unique r t n s (goes-on on _ more) (goes-on _ _ more′) = runs-unique r t (n + 1) (round room j s) more more′
 
-  module _ (sent : List ℤ) (sane : Sane j) where
+  module _ (sane : Sane j) where
     -- Each round but the last writes a slip of seven words at least, so fuel that with the slips written makes up the room is enough.
-    pub run-runs : (fuel n : ℕ) (s : State) → Kept room j sent s → room ≤ fuel + s .slips → Runs room j (run room j fuel n s) n s
+    pub run-runs : (fuel n : ℕ) (s : State) → Kept room j s → room ≤ fuel + s .slips → Runs room j (run room j fuel n s) n s
     unfolding run
-    run-runs zero n s k enough = absurd (omega (arith, slips-room room j sent s k, k .trailer-fits))
-    run-runs (suc fuel) n s k enough = go (round room j s .status) refl (run-runs fuel (n + 1) (round room j s) (round-kept room j sent sane s k))
+    run-runs zero n s k enough = absurd (omega (arith, slips-room room j s k, k .trailer-fits))
+    run-runs (suc fuel) n s k enough = go (round room j s .status) refl (run-runs fuel (n + 1) (round room j s) (round-kept room j sane s k))
       where
         next : State
         next = round room j s
@@ -197,7 +198,7 @@ module _ (room : ℕ) (j : Job) where
         go running on rec = slip-test (eqb (next .slips) (s .slips)) (eqb-true (next .slips) (s .slips)) (eqb-false (next .slips) (s .slips)) on rec
 
     -- More fuel changes nothing.
-    pub run-fuel : (fuel more n : ℕ) (s : State) → Kept room j sent s → room ≤ fuel + s .slips → run room j (fuel + more) n s ≡ run room j fuel n s
+    pub run-fuel : (fuel more n : ℕ) (s : State) → Kept room j s → room ≤ fuel + s .slips → run room j (fuel + more) n s ≡ run room j fuel n s
     run-fuel fuel more n s k enough =
         runs-unique (run room j (fuel + more) n s) (run room j fuel n s) n s (run-runs (fuel + more) n s k (omega arith)) (run-runs fuel n s k enough)
 
@@ -209,42 +210,42 @@ Verdict-fits room j stopped s = s .status ≡ ended stopped
 Verdict-fits room j still-open s = ⊥
 
 -- How a run ends that was sent a window table, from a state with n rounds begun and m slips written.
-pub record Finished (room : ℕ) (j : Job) (sent : List ℤ) (n m : ℕ) (r : Run) : Type 0 where
-  pub kept : Kept room j sent (r .state)
+pub record Finished (room : ℕ) (j : Job) (n m : ℕ) (r : Run) : Type 0 where
+  pub kept : Kept room j (r .state)
   pub verdict-fits : Verdict-fits room j (r .verdict) (r .state)
   pub begun : n < r .rounds
   pub counted : r .rounds + m ≤ n + r .state .slips + 1
 
-module _ (room : ℕ) (j : Job) (sent : List ℤ) (sane : Sane j) where
-  closed-fits : (s : State) (v : Verdict) → Kept room j sent s → s .status ≡ ended v → Verdict-fits room j v s
+module _ (room : ℕ) (j : Job) (sane : Sane j) where
+  closed-fits : (s : State) (v : Verdict) → Kept room j s → s .status ≡ ended v → Verdict-fits room j v s
   closed-fits s settled k off = absurd (rw off at (k .status-fits))
   closed-fits s conflict k off = off
   closed-fits s stopped k off = off
   closed-fits s still-open k off = absurd (rw off at (k .status-fits))
 
   -- What the end of a run says.
-  pub runs-finished : (r : Run) (n : ℕ) (s : State) → Kept room j sent s → Runs room j r n s → Finished room j sent n (s .slips) r
+  pub runs-finished : (r : Run) (n : ℕ) (s : State) → Kept room j s → Runs room j r n s → Finished room j n (s .slips) r
   runs-finished r n s k (closes v off is) =
-      let next = round-kept room j sent sane s k in
+      let next = round-kept room j sane s k in
       let onward = round-onward room j sane s in
       rw is (record { kept = next; verdict-fits = closed-fits (round room j s) v next off; begun = omega arith; counted = omega (arith, onward .more) })
   runs-finished r n s k (settles on none is) =
-      let next = round-kept room j sent sane s k in
+      let next = round-kept room j sane s k in
       let onward = round-onward room j sane s in
       let still : round room j s ≡ s = onward .unmoved on none in
       rw is (record { kept = next; verdict-fits = (on, ap (round room j) still); begun = omega arith; counted = omega (arith, onward .more) })
   runs-finished r n s k (goes-on on some more) =
       let onward = round-onward room j sane s in
-      let f = runs-finished r (n + 1) (round room j s) (round-kept room j sent sane s k) more in
+      let f = runs-finished r (n + 1) (round room j s) (round-kept room j sane s k) more in
       record { kept = f .kept; verdict-fits = f .verdict-fits; begun = omega (arith, f .begun); counted = omega (arith, f .counted, onward .more, some) }
 
   -- The planner's run: the room is fuel enough, the rounds begun are at most one more than the slips, and so on.
-  module _ (whole : length sent ≡ 4 * j .events) (standing : Standing j (windows sent) (windows sent)) (fit : 3 ≤ room) where
-    pub plan-runs : Runs room j (run room j room 0 (start sent)) 0 (start sent)
-    plan-runs = run-runs room j sent sane room 0 (start sent) (start-kept room j sent whole standing fit) (omega arith)
+  module _ (whole : length (j .window-table) ≡ 4 * events j) (standing : Standing j (sent j)) (fit : 3 ≤ room) where
+    pub plan-runs : Runs room j (run room j room 0 (start (j .window-table))) 0 (start (j .window-table))
+    plan-runs = run-runs room j sane room 0 (start (j .window-table)) (start-kept room j whole standing fit) (omega arith)
 
-    pub plan-fuel : (more : ℕ) → run room j (room + more) 0 (start sent) ≡ run room j room 0 (start sent)
-    plan-fuel more = run-fuel room j sent sane room more 0 (start sent) (start-kept room j sent whole standing fit) (omega arith)
+    pub plan-fuel : (more : ℕ) → run room j (room + more) 0 (start (j .window-table)) ≡ run room j room 0 (start (j .window-table))
+    plan-fuel more = run-fuel room j sane room more 0 (start (j .window-table)) (start-kept room j whole standing fit) (omega arith)
 
-    pub plan-finished : Finished room j sent 0 0 (run room j room 0 (start sent))
-    plan-finished = runs-finished (run room j room 0 (start sent)) 0 (start sent) (start-kept room j sent whole standing fit) plan-runs
+    pub plan-finished : Finished room j 0 0 (run room j room 0 (start (j .window-table)))
+    plan-finished = runs-finished (run room j room 0 (start (j .window-table))) 0 (start (j .window-table)) (start-kept room j whole standing fit) plan-runs

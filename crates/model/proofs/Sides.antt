@@ -1,17 +1,15 @@
--- The side of a job: as it stands, or its mirror. Twice is nothing; bounds, windows, stock, limits and legal schedules are carried over, and signs turn. So what is proved of rules 3 to 5 and 9 to 11 on every side is proved of rules 3 to 14.
+-- What a rule sees: the mirror turns bounds, windows and signs, and twice is nothing; windows seen in a view stand to one another as those that they show. So what is proved of views is proved of rules 3 to 14.
 -- Assumes nothing.
-use mathlib.Core.Path.{_≡_, refl, sym, ap, subst, _∙_, fun-ext}
-use mathlib.Core.Bool.{Bool, true, false, cond}
+use mathlib.Core.Path.{_≡_, refl, sym, subst}
+use mathlib.Core.Bool.{Bool, true, false}
 use Prim.Native.Nat.{ℕ, _<_}
 use lib.Dec.{T}
-use lib.IntN.{ℤ, pos, negℤ, negℤ-negℤ, negℤ-+ℤ, _+ℤ_}
+use lib.IntN.{ℤ, negℤ, negℤ-negℤ}
 use lib.Signed.{leZ, _≤ℤ_}
-use Rattle.integers.specs.Sum.{sum}
 use Rattle.integers.proofs.Linear.{ints, neg-law}
-use Rattle.integers.proofs.Sums.{sum-ext, sum-neg}
 use Rattle.integers.proofs.Tests.{same-test}
-use Rattle.model.specs.Job.{End, t-min, t-max, h-min, h-max, meets, Windows, Job, Schedule, value, Inside, stock, Legal, produces, consumes}
-use Rattle.model.specs.Levels.{side-value, side-end, side, side-reservoir}
+use Rattle.model.specs.Job.{End, t-min, t-max, h-min, h-max, meets, Windows, Job, Schedule, value, Inside, produces, consumes}
+use Rattle.model.specs.View.{side-value, side-end, side, seen}
 use Rattle.model.proofs.Levels.{Signed}
 
 -- ---- tests turn
@@ -65,58 +63,27 @@ side-signed true {n} {W} s =
       consumers = λ y l t. let a = s .producers y l (subst T (neg-consumes (W y h-max)) t) in omega (ints, neg-law (W y h-min));
     }
 
--- ---- the job, schedules, the stock
+-- ---- what a rule sees
 
-abbrev pub side-job : Bool → Job → Job
-side-job m j =
-    record { horizon = j .horizon; reservoir = side-reservoir m (j .reservoir); events = j .events; lag-table = j .lag-table }
+-- The windows seen in a view: inside, filled and signed as those that they show.
+module _ (j : Job) (m : Bool) (e : ℕ) where
+  pub seen-inside : {n : ℕ} {W x : Windows} → Inside n W x → Inside n (seen j m e W) (seen j m e x)
+  seen-inside i = side-inside m i
 
-abbrev pub side-schedule : Bool → Schedule → Schedule
-side-schedule false p = p
-side-schedule true p = record { time = p .time; height = λ y. negℤ (p .height y) }
+  pub seen-times : (n : ℕ) (W : Windows) → ((y : ℕ) → y < n → W y t-min ≤ℤ W y t-max) → (y : ℕ) → y < n → seen j m e W y t-min ≤ℤ seen j m e W y t-max
+  seen-times n W h = side-times m n W h
 
-pub side-value-is : (m : Bool) (p : Schedule) (y : ℕ) (k : End) → side m (value p) y k ≡ value (side-schedule m p) y k
-side-value-is false p y k = refl
-side-value-is true p y t-min = refl
-side-value-is true p y t-max = refl
-side-value-is true p y h-min = refl
-side-value-is true p y h-max = refl
+  pub seen-heights : (n : ℕ) (W : Windows) → ((y : ℕ) → y < n → W y h-min ≤ℤ W y h-max) → (y : ℕ) → y < n → seen j m e W y h-min ≤ℤ seen j m e W y h-max
+  seen-heights n W h = side-heights m n W h
 
-pub inside-schedule : (m : Bool) {n : ℕ} {W : Windows} {p : Schedule} → Inside n W (value p) → Inside n (side m W) (value (side-schedule m p))
-inside-schedule m {n} {W} {p} i = subst (Inside n (side m W)) (fun-ext (λ y. fun-ext (λ k. side-value-is m p y k))) (side-inside m i)
+  pub seen-signed : {n : ℕ} {W : Windows} → Signed n W → Signed n (seen j m e W)
+  seen-signed s = side-signed m s
 
-cond-neg : (b : Bool) (h : ℤ) → cond b (negℤ h) (pos 0) ≡ negℤ (cond b h (pos 0))
-cond-neg true h = refl
-cond-neg false h = refl
+-- A schedule is windows whose ends coincide; so it is seen.
+pub record Point (x : Windows) : Type 0 where
+  pub one-time : (y : ℕ) → x y t-max ≡ x y t-min
+  pub one-height : (y : ℕ) → x y h-min ≡ x y h-max
 
-pub side-stock : (m : Bool) (j : Job) (p : Schedule) (t : ℤ) → stock (side-job m j) (side-schedule m p) t ≡ side-value m h-max (stock j p t)
-unfolding stock
-side-stock false j p t = refl
-side-stock true j p t =
-    ap (λ x. negℤ (j .reservoir .initial) +ℤ x)
-    (sum-ext (j .events) (λ y. cond (leZ (p .time y) t) (negℤ (p .height y)) (pos 0)) (λ y. negℤ (cond (leZ (p .time y) t) (p .height y) (pos 0))) (λ y l. cond-neg (leZ (p .time y) t) (p .height y))
-    ∙ sum-neg (j .events) (λ y. cond (leZ (p .time y) t) (p .height y) (pos 0)))
-    ∙ sym (negℤ-+ℤ (j .reservoir .initial) (sum (j .events) (λ y. cond (leZ (p .time y) t) (p .height y) (pos 0))))
-
--- ---- legal schedules
-
--- A legal schedule's side is legal on that side.
-pub side-legal : (m : Bool) {j : Job} {W : Windows} {p : Schedule} → Legal j W p → Legal (side-job m j) (side m W) (side-schedule m p)
-side-legal false h = h
-side-legal true {j} {W} {p} h =
-    record {
-      within = inside-schedule true (h .within);
-      lagged = h .lagged;
-      above-min = λ t. rw (side-stock true j p t) (let a = h .below-max t in omega (ints, neg-law (stock j p t), neg-law (j .reservoir .max-level)));
-      below-max = λ t. rw (side-stock true j p t) (let a = h .above-min t in omega (ints, neg-law (stock j p t), neg-law (j .reservoir .min-level)));
-    }
-
--- A bound on the side, read back.
-pub side-holds : (m : Bool) (k : End) (v : ℤ) (p : Schedule) (y : ℕ) → T (meets k v (value (side-schedule m p) y k)) → T (meets (side-end m k) (side-value m k v) (value p y (side-end m k)))
-side-holds false k v p y t = t
-side-holds true t-min v p y t = t
-side-holds true t-max v p y t = t
-side-holds true h-min v p y t = omega (ints, neg-law v, neg-law (p .height y))
-side-holds true h-max v p y t = omega (ints, neg-law v, neg-law (p .height y))
-
--- ---- windows of a call
+pub seen-point : (j : Job) (m : Bool) (e : ℕ) (p : Schedule) → Point (seen j m e (value p))
+seen-point j false e p = record { one-time = λ y. refl; one-height = λ y. refl }
+seen-point j true e p = record { one-time = λ y. refl; one-height = λ y. refl }

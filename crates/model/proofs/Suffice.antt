@@ -2,7 +2,7 @@
 -- Assumes nothing.
 use mathlib.Core.Path.{_≡_, refl, sym, ap, subst, _∙_}
 use mathlib.Core.Bool.{Bool, true, false, not, _&&_}
-use Prim.Native.Nat.{ℕ, _≤_, _<_}
+use Prim.Native.Nat.{ℕ, _<_}
 use native.Mathlib.Omega.{arith}
 use lib.Dec.{T, eqb, eqb→eq, eqb-refl, not-T}
 use lib.IntN.{ℤ, pos, negℤ, _+ℤ_, _-ℤ_}
@@ -10,20 +10,22 @@ use lib.Signed.{leZ, ltZ, _<ℤ_}
 use Rattle.integers.specs.Range.{eqZ}
 use Rattle.integers.proofs.Linear.{ints, add-law}
 use Rattle.integers.proofs.Tests.{is-true, is-false, and-in}
-use Rattle.model.specs.Job.{End, t-min, t-max, h-min, h-max, opposite, meets, Windows, widest, Reservoir, Job, lags, lag-a, lag-b, lag-d}
-use Rattle.model.specs.Levels.{Switch, place, most, side-value, side-end, side, side-reservoir}
-use Rattle.model.specs.Rules.{Finding, clash, bound, given-if, time-rule, targeted, Family, level, time, height, Rule, lag-upper, lag-lower, reservoir, switch, rule, family-rule, family-end, side-finding, finding, own-end, Effect, idle, narrows, fails, effect, failed}
-use Rattle.model.specs.Facts.{cites, says, latest, quotes-top, drops, family-cites, family-says, lag-cites, quotes, quoted}
+use Rattle.model.specs.Job.{End, t-min, t-max, h-min, h-max, opposite, meets, Windows, widest, Job, lags, lag-a, lag-b, lag-d, events}
+use Rattle.model.specs.Standing.{Sane, Standing}
+use Rattle.model.specs.View.{side-value, side-end, side, View, view, seen}
+use Rattle.model.specs.Levels.{most, e-min, e-max, stands}
+use Rattle.model.specs.Rules.{Finding, clash, bound, given-if, time-rule, targeted, Family, level, time, height, Rule, lag-upper, lag-lower, reservoir, rule, family-rule, family-end, side-finding, finding, own-end, Effect, idle, narrows, fails, effect, failed, subjects, target-fits}
+use Rattle.model.specs.Facts.{cites, says, latest, quotes-top, family-cites, family-says, lag-cites, quotes, quoted, drops}
 use Rattle.model.specs.Slips.{number, premise-list, concluded-kind, concluded-value, explanation}
+use Rattle.model.specs.Agenda.{Valid}
 use Rattle.model.specs.Questions.{is-event}
-use Rattle.model.specs.Reader.{subjects, target-fits, has-bound, kind-fits, premises-fit, names, all-true, narrowed, as-strict, gives}
-use Rattle.model.proofs.Standing.{Sane, Standing}
+use Rattle.model.specs.Reader.{has-bound, kind-fits, premises-fit, names, all-true, narrowed, as-strict, gives}
 use Rattle.model.proofs.Order.{meets-refl, meets-trans, opposite-meets, narrowed-in, inside-narrowed, narrowed-true}
 use Rattle.model.proofs.Levels.{most-weaker, signed-within}
 use Rattle.model.proofs.Time.{time-waits, waits-most, below-time, time-never-fails}
-use Rattle.model.proofs.Sides.{side-inside, side-times, side-heights, side-signed}
+use Rattle.model.proofs.Sides.{seen-inside, seen-times, seen-heights, seen-signed}
 use Rattle.model.proofs.Table.{narrows-bound}
-use Rattle.model.proofs.Effects.{fails-past, past-fails, effect-given, across, side-effect, effect-side, failed-side, strict-side}
+use Rattle.model.proofs.Effects.{fails-past, past-fails, effect-given, across, side-effect, effect-side, failed-side, strict-side, aims, fits-aims}
 use Rattle.model.proofs.Premises.{Keeps, list-fits, list-true, true-list, event-fits}
 use Rattle.model.proofs.Support.{Opened, Grounds, cites-true, amount-kept, most-backed, opened-wider, targets-backed, needs-backed}
 
@@ -52,12 +54,6 @@ bound-agrees k W X y a b fails h o e i =
 
 -- ---- the families, at general windows
 
--- The targets of a family at e.
-abbrev aims : Family → ℕ → ℕ → Bool
-aims level e y = eqb y e
-aims time e y = eqb y e
-aims height e y = true
-
 -- No amount of a conflict is left out, and of a bound only the target's own.
 drops-none : (x : Effect) (y z : ℕ) → x ≡ fails → T (not (drops height x y z))
 drops-none x y z e = rw e tt
@@ -68,39 +64,39 @@ drops-other (narrows v) y z d = not-T (eqb z y) (λ t. d (eqb→eq z y t))
 drops-other fails y z d = tt
 
 -- Question 15.
-family-true : (f : Family) (s : Switch) (n : ℕ) (W : Windows) (e y : ℕ) (x : Effect) → Keeps n (family-cites f s n W e y x) (family-says f s n W e y x) W
-family-true level s n W e y x = cites-true s n W e (W e t-max) (quotes-top level) (drops level x y) (λ _. omega ints)
-family-true time s n W e y x = cites-true s n W e (latest time (W e t-max) x) false (drops time x y) (λ t. absurd t)
-family-true height s n W e y x = cites-true s n W e (W e t-max) true (drops height x y) (λ _. omega ints)
+family-true : (f : Family) (E : View) (W : Windows) (y : ℕ) (x : Effect) → Keeps (E .events) (family-cites f E W y x) (family-says f E W x) W
+family-true level E W y x = cites-true E W (e-max E W) (quotes-top level) (drops level x y) (λ _. omega ints)
+family-true time E W y x = cites-true E W (latest time (e-max E W) x) false (drops time x y) (λ t. absurd t)
+family-true height E W y x = cites-true E W (e-max E W) true (drops height x y) (λ _. omega ints)
 
-module _ (s : Switch) (n : ℕ) (c : Reservoir) {W X : Windows} (o : Opened n W X) (e : ℕ) (l : e < n) (y : ℕ) (m : y < n) where
+module _ (E : View) {W X : Windows} (o : Opened (E .events) W X) (l : E .subject < E .events) (y : ℕ) (m : y < E .events) where
   -- Question 16.
-  family-agrees : (f : Family) (x : Effect) → T (aims f e y) → x ≡ effect (family-end f) W y (family-rule f s n c W e y) → (x ≡ idle → ⊥) → Keeps n (family-cites f s n W e y x) (family-says f s n W e y x) X → T (agrees (family-end f) X y x (family-rule f s n c X e y))
+  family-agrees : (f : Family) (x : Effect) → T (aims f (E .subject) y) → x ≡ effect (family-end f) W y (family-rule f E W y) → (x ≡ idle → ⊥) → Keeps (E .events) (family-cites f E W y x) (family-says f E W x) X → T (agrees (family-end f) X y x (family-rule f E X y))
   family-agrees level x d q i k =
-      let r = effect-given t-min W y (ltZ (most s n c W e) (c .min-level)) clash x q i in
-      let g : Grounds s n W X e (W e t-max) (X e t-max) true (drops level x y) = record { opened = o; subject = l; kept = k; to-top = λ _. refl; to-bound = λ t. absurd t } in
-      let a = most-backed g c (λ z b. tt) in
+      let r = effect-given t-min W y (ltZ (most E W) (E .limit)) clash x q i in
+      let g : Grounds E W X (e-max E W) (e-max E X) true (drops level x y) = record { opened = o; subject = l; kept = k; to-top = λ _. refl; to-bound = λ t. absurd t } in
+      let a = most-backed g (λ z b. tt) in
       let b = r .0 in
-      let h : most s n c X e <ℤ c .min-level = omega ints in
-      rw (r .1, is-true (ltZ (most s n c X e) (c .min-level)) (h .lt)) tt
+      let h : most E X <ℤ E .limit = omega ints in
+      rw (r .1, is-true (ltZ (most E X) (E .limit)) (h .lt)) tt
   family-agrees time idle d q i k = absurd (i refl)
   family-agrees time (narrows v) d q i k =
-      let w = time-waits s n c W e v (narrows-bound t-min W y (time-rule s n c W e) v (sym q) .0) in
-      let g : Grounds s n W X e (v -ℤ pos 1) (v -ℤ pos 1) false (drops time (narrows v) y) = record { opened = o; subject = l; kept = k; to-top = λ t. absurd t; to-bound = λ _. refl } in
-      let a = most-backed g c (λ z b. tt) in
-      let b = waits-most s n c W e v w in
-      let h = most-weaker s c e (opened-wider o e l) in
+      let w = time-waits E W v (narrows-bound t-min W y (time-rule E W) v (sym q) .0) in
+      let g : Grounds E W X (v -ℤ pos 1) (v -ℤ pos 1) false (drops time (narrows v) y) = record { opened = o; subject = l; kept = k; to-top = λ t. absurd t; to-bound = λ _. refl } in
+      let a = most-backed g (λ z b. tt) in
+      let b = waits-most E W v w in
+      let h = most-weaker E (opened-wider E o l) in
       let f = w .below in
-      let r = below-time s n c X e v (omega ints) (omega ints) in
+      let r = below-time E X v (omega ints) (omega ints) in
       rw (r .1) (r .2 .le)
-  family-agrees time fails d q i k = absurd (time-never-fails s n c W e (sym (subst (λ z. fails ≡ effect t-min W z (time-rule s n c W e)) (eqb→eq y e d) q)))
+  family-agrees time fails d q i k = absurd (time-never-fails E W (sym (subst (λ z. fails ≡ effect t-min W z (time-rule E W)) (eqb→eq y (E .subject) d) q)))
   family-agrees height x d q i k =
-      let r = effect-given h-min W y (targeted (place s W e (W e t-min) (W e t-max) y) (W y h-max)) (bound (c .min-level -ℤ (most s n c W e -ℤ W y h-max))) x q i in
-      let g : Grounds s n W X e (W e t-max) (X e t-max) true (drops height x y) = record { opened = o; subject = l; kept = k; to-top = λ _. refl; to-bound = λ t. absurd t } in
-      let t = targets-backed g c y m (r .0) in
-      let a = needs-backed g c y m (r .0) (λ z b. drops-other x y z) in
-      rw (is-true (targeted (place s X e (X e t-min) (X e t-max) y) (X y h-max)) t)
-      (bound-agrees h-min W X y (c .min-level -ℤ (most s n c W e -ℤ W y h-max)) (c .min-level -ℤ (most s n c X e -ℤ X y h-max)) x (a .le) (λ p. amount-kept g y m (drops-none x y y p) (r .0) .le) (r .1) i)
+      let r = effect-given h-min W y (targeted (stands E W y) (W y h-max)) (bound (E .limit -ℤ (most E W -ℤ W y h-max))) x q i in
+      let g : Grounds E W X (e-max E W) (e-max E X) true (drops height x y) = record { opened = o; subject = l; kept = k; to-top = λ _. refl; to-bound = λ t. absurd t } in
+      let t = targets-backed g y m (r .0) in
+      let a = needs-backed g y m (r .0) (λ z b. drops-other x y z) in
+      rw (is-true (targeted (stands E X y) (X y h-max)) t)
+      (bound-agrees h-min W X y (E .limit -ℤ (most E W -ℤ W y h-max)) (E .limit -ℤ (most E X -ℤ X y h-max)) x (a .le) (λ p. amount-kept g y m (drops-none x y y p) (r .0) .le) (r .1) i)
 
 -- ---- sides
 
@@ -141,47 +137,50 @@ drops-side height m idle y = refl
 drops-side height m (narrows v) y = refl
 drops-side height m fails y = refl
 
-quoted-side : (f : Family) (m : Bool) (s : Switch) (n : ℕ) (W X : Windows) (e y : ℕ) (x : Effect) →
-    Keeps n (family-cites f s n W e y (side-effect m (family-end f) x)) (family-says f s n W e y (side-effect m (family-end f) x)) X →
-    Keeps n (family-cites f s n W e y x) (family-says f s n W e y x) X
-quoted-side f m s n W X e y x h =
-    subst (λ d. Keeps n (cites s n W e (W e t-min) (latest f (W e t-max) x) (quotes-top f) d) (says s n W e (W e t-min) (latest f (W e t-max) x) (quotes-top f) d) X) (drops-side f m x y)
-    (subst (λ t. Keeps n (cites s n W e (W e t-min) t (quotes-top f) (drops f (side-effect m (family-end f) x) y)) (says s n W e (W e t-min) t (quotes-top f) (drops f (side-effect m (family-end f) x) y)) X) (latest-side f m (W e t-max) x) h)
+quoted-side : (f : Family) (m : Bool) (E : View) (W X : Windows) (y : ℕ) (x : Effect) →
+    Keeps (E .events) (family-cites f E W y (side-effect m (family-end f) x)) (family-says f E W (side-effect m (family-end f) x)) X →
+    Keeps (E .events) (family-cites f E W y x) (family-says f E W x) X
+quoted-side f m E W X y x h =
+    subst (λ d. Keeps (E .events) (cites E W (e-min E W) (latest f (e-max E W) x) (quotes-top f) d) (says E W (e-min E W) (latest f (e-max E W) x)) X) (drops-side f m x y)
+    (subst (λ t. Keeps (E .events) (cites E W (e-min E W) t (quotes-top f) (drops f (side-effect m (family-end f) x) y)) (says E W (e-min E W) t) X) (latest-side f m (e-max E W) x) h)
 
-side-opened : (m : Bool) {n : ℕ} {W X : Windows} → Opened n W X → Opened n (side m W) (side m X)
-side-opened m {n} {W} o =
+seen-opened : (j : Job) (m : Bool) (e : ℕ) {n : ℕ} {W X : Windows} → Opened n W X → Opened n (seen j m e W) (seen j m e X)
+seen-opened j m e {n} {W} o =
     record {
-      wider = side-inside m (o .wider);
-      times = side-times m n W (o .times);
-      heights = side-heights m n W (o .heights);
-      signs = side-signed m (o .signs);
+      wider = seen-inside j m e (o .wider);
+      times = seen-times j m e n W (o .times);
+      heights = seen-heights j m e n W (o .heights);
+      signs = seen-signed j m e (o .signs);
     }
 
--- Rules 3 to 14: a side's family.
-module _ (m : Bool) (s : Switch) (f : Family) (n : ℕ) (c : Reservoir) {W X : Windows} (o : Opened n W X) (e : ℕ) (l : e < n) (y : ℕ) (b : y < n) (d : T (aims f e y)) where
-  side-agrees : (x : Effect) →
-      x ≡ effect (side-end m (family-end f)) W y (side-finding m (family-end f) (family-rule f s n c (side m W) e y)) →
+-- Rules 3 to 14: a family in a view.
+module _ (j : Job) (m w : Bool) (f : Family) {W X : Windows} (o : Opened (events j) W X) (e : ℕ) (l : e < events j) (y : ℕ) (b : y < events j) (d : T (aims f e y)) where
+  abbrev E : View
+  E = view j m w e
+
+  seen-agrees : (x : Effect) →
+      x ≡ effect (side-end m (family-end f)) W y (side-finding m (family-end f) (family-rule f E (seen j m e W) y)) →
       (x ≡ idle → ⊥) →
-      Keeps n (λ z k. family-cites f s n (side m W) e y x z (side-end m k)) (λ z k. side-value m k (family-says f s n (side m W) e y x z (side-end m k))) X →
-      T (agrees (side-end m (family-end f)) X y x (side-finding m (family-end f) (family-rule f s n c (side m X) e y)))
-  side-agrees x q i k =
+      Keeps (events j) (λ z k. family-cites f E (seen j m e W) y x z (side-end m k)) (λ z k. side-value m k (family-says f E (seen j m e W) x z (side-end m k))) X →
+      T (agrees (side-end m (family-end f)) X y x (side-finding m (family-end f) (family-rule f E (seen j m e X) y)))
+  seen-agrees x q i k =
       let t = family-end f in
-      let g = family-rule f s n c (side m W) e y in
-      let z = effect t (side m W) y g in
+      let g = family-rule f E (seen j m e W) y in
+      let z = effect t (seen j m e W) y g in
       let p : x ≡ side-effect m t z = q ∙ effect-side m t W y g in
-      let h = subst (λ x. Keeps n (family-cites f s n (side m W) e y x) (family-says f s n (side m W) e y x) (side m X)) p (keeps-in n (family-cites f s n (side m W) e y x) (family-says f s n (side m W) e y x) X m k) in
-      let a = family-agrees s n c (side-opened m o) e l y b f z d refl (λ r. i (p ∙ ap (side-effect m t) r)) (quoted-side f m s n (side m W) (side m X) e y z h) in
-      subst (λ x. T (agrees (side-end m t) X y x (side-finding m t (family-rule f s n c (side m X) e y)))) (sym p)
-      (subst T (sym (agrees-side m t X y z (family-rule f s n c (side m X) e y))) a)
+      let h = subst (λ x. Keeps (events j) (family-cites f E (seen j m e W) y x) (family-says f E (seen j m e W) x) (seen j m e X)) p (keeps-in (events j) (family-cites f E (seen j m e W) y x) (family-says f E (seen j m e W) x) X m k) in
+      let a = family-agrees E (seen-opened j m e o) l y b f z d refl (λ r. i (p ∙ ap (side-effect m t) r)) (quoted-side f m E (seen j m e W) (seen j m e X) y z h) in
+      subst (λ x. T (agrees (side-end m t) X y x (side-finding m t (family-rule f E (seen j m e X) y)))) (sym p)
+      (subst T (sym (agrees-side m t X y z (family-rule f E (seen j m e X) y))) a)
 
 -- ---- lags
 
 -- The ends that a lag's slip quotes are kept.
-lag-kept : (u v : Bool) (j : Job) (W X : Windows) (g : ℕ) → Sane j → g < lags j → Keeps (j .events) (lag-cites u v j g) W X →
+lag-kept : (u v : Bool) (j : Job) (W X : Windows) (g : ℕ) → Sane j → g < lags j → Keeps (events j) (lag-cites u v j g) W X →
     (T u → T (meets t-min (W (lag-a j g) t-min) (X (lag-a j g) t-min))) × (T v → T (meets t-max (W (lag-b j g) t-max) (X (lag-b j g) t-max)))
 lag-kept u v j W X g sane l k = (
-  λ t. k (lag-a j g) (sane .real-a g l) t-min (and-in u (eqb (lag-a j g) (lag-a j g)) t (eqb-refl (lag-a j g))),
-  λ t. k (lag-b j g) (sane .real-b g l) t-max (and-in v (eqb (lag-b j g) (lag-b j g)) t (eqb-refl (lag-b j g))),
+  λ t. k (lag-a j g) (sane .lag g l .real-a) t-min (and-in u (eqb (lag-a j g) (lag-a j g)) t (eqb-refl (lag-a j g))),
+  λ t. k (lag-b j g) (sane .lag g l .real-b) t-max (and-in v (eqb (lag-b j g) (lag-b j g)) t (eqb-refl (lag-b j g))),
 )
 
 later-by : (a b d : ℤ) → T (leZ a b) → T (leZ (a +ℤ d) (b +ℤ d))
@@ -192,22 +191,17 @@ earlier-by a b d t = later-by a b (negℤ d) t
 
 -- ---- all rules
 
-fits-aims : (m b : Bool) (f : Family) (j : Job) (e y : ℕ) → T (target-fits (reservoir m b f) j e y) → T (aims f e y)
-fits-aims m b level j e y t = t
-fits-aims m b time j e y t = t
-fits-aims m b height j e y t = tt
-
 -- Question 15.
-rule-true : (r : Rule) (j : Job) (W : Windows) (e y : ℕ) (x : Effect) → Keeps (j .events) (quotes r j W e y x) (quoted r j W e y x) W
+rule-true : (r : Rule) (j : Job) (W : Windows) (e y : ℕ) (x : Effect) → Keeps (events j) (quotes r j W e y x) (quoted r j W e y x) W
 unfolding quotes quoted
 rule-true lag-upper j W e y x = λ z l k t. meets-refl k (W z k)
 rule-true lag-lower j W e y x = λ z l k t. meets-refl k (W z k)
 rule-true (reservoir m b f) j W e y x =
-    keeps-out (j .events) (family-cites f (switch b) (j .events) (side m W) e y x) (family-says f (switch b) (j .events) (side m W) e y x) W m (family-true f (switch b) (j .events) (side m W) e y x)
+    keeps-out (events j) (family-cites f (view j m b e) (seen j m e W) y x) (family-says f (view j m b e) (seen j m e W) x) W m (family-true f (view j m b e) (seen j m e W) y x)
 
 -- Question 16.
-rule-agrees : (r : Rule) (j : Job) (W X : Windows) (e y : ℕ) (x : Effect) → Sane j → Opened (j .events) W X → e < subjects r j → y < j .events → T (target-fits r j e y) →
-    x ≡ effect (own-end r) W y (finding r j W e y) → (x ≡ idle → ⊥) → Keeps (j .events) (quotes r j W e y x) (quoted r j W e y x) X → T (agrees (own-end r) X y x (finding r j X e y))
+rule-agrees : (r : Rule) (j : Job) (W X : Windows) (e y : ℕ) (x : Effect) → Sane j → Opened (events j) W X → e < subjects r j → y < events j → T (target-fits r j e y) →
+    x ≡ effect (own-end r) W y (finding r j W e y) → (x ≡ idle → ⊥) → Keeps (events j) (quotes r j W e y x) (quoted r j W e y x) X → T (agrees (own-end r) X y x (finding r j X e y))
 unfolding quotes quoted finding
 rule-agrees lag-upper j W X e y x sane o l b d q i k =
     let h = lag-kept (failed x) true j W X e sane l k in
@@ -224,7 +218,7 @@ rule-agrees lag-lower j W X e y x sane o l b d q i k =
     q
     i
 rule-agrees (reservoir m w f) j W X e y x sane o l b d q i k =
-    side-agrees m (switch w) f (j .events) (side-reservoir m (j .reservoir)) o e l y b (fits-aims m w f j e y d) x q i k
+    seen-agrees j m w f o e l y b (fits-aims m w f j e y d) x q i k
 
 -- ---- the slip
 
@@ -245,7 +239,7 @@ unfolding finding
 bound-fits lag-upper j W e y v q = tt
 bound-fits lag-lower j W e y v q = tt
 bound-fits (reservoir m b level) j W e y v q =
-    level-unbound m (ltZ (most (switch b) (j .events) (side-reservoir m (j .reservoir)) (side m W) e) (side-reservoir m (j .reservoir) .min-level)) v q
+    level-unbound m (ltZ (most (view j m b e) (seen j m e W)) (view j m b e .limit)) v q
 bound-fits (reservoir m b time) j W e y v q = tt
 bound-fits (reservoir m b height) j W e y v q = tt
 
@@ -265,28 +259,28 @@ gives-agrees r j W X e y (narrows v) t = rw (no-conflict (own-end (rule r))) t
 gives-agrees r j W X e y fails t = t
 
 -- A slip that the planner writes passes questions 14, 15 and 16.
-pub slip-passes : (j : Job) (sent W : Windows) (r e y : ℕ) → Sane j → Standing j sent W → 1 ≤ r → r ≤ 14 → e < subjects (rule r) j → y < j .events → T (target-fits (rule r) j e y) →
+pub slip-passes : (j : Job) (W : Windows) (r e y : ℕ) → Sane j → Standing j W → Valid j r e y →
     (x : Effect) → x ≡ effect (own-end (rule r)) W y (finding (rule r) j W e y) → (x ≡ idle → ⊥) →
     T (names j (explanation r j W e y x))
     × T (all-true W (explanation r j W e y x .premises))
-    × T (gives j (narrowed (widest (j .horizon) sent) (explanation r j W e y x .premises)) (explanation r j W e y x))
+    × T (gives j (narrowed (widest j) (explanation r j W e y x .premises)) (explanation r j W e y x))
 unfolding names
-slip-passes j sent W r e y sane std low high l b d x q i =
-    let n = j .events in
+slip-passes j W r e y sane std a x q i =
+    let n = events j in
     let c = quotes (rule r) j W e y x in
     let v = quoted (rule r) j W e y x in
     let fs = premise-list n c v in
-    let wide = widest (j .horizon) sent in
+    let wide = widest j in
     let X = narrowed wide fs in
     let holds : T (all-true W fs) = list-true n c v W (rule-true (rule r) j W e y x) in
     let o : Opened n W X = record { wider = inside-narrowed (std .within) fs holds; times = std .times; heights = std .heights; signs = signed-within (narrowed-in n wide fs) } in (
       and-in (is-event (subjects (rule r) j) (pos e) && is-event n (pos y) && premises-fit n fs && target-fits (rule r) j e y) (kind-fits (rule r) (pos (concluded-kind (rule r) x)) (concluded-value x))
           (and-in (is-event (subjects (rule r) j) (pos e) && is-event n (pos y) && premises-fit n fs) (target-fits (rule r) j e y)
           (and-in (is-event (subjects (rule r) j) (pos e) && is-event n (pos y)) (premises-fit n fs)
-          (and-in (is-event (subjects (rule r) j) (pos e)) (is-event n (pos y)) (event-fits (subjects (rule r) j) e l) (event-fits n y b))
+          (and-in (is-event (subjects (rule r) j) (pos e)) (is-event n (pos y)) (event-fits (subjects (rule r) j) e (a .subject)) (event-fits n y (a .event)))
           (list-fits n c v))
-          d)
+          (a .target))
           (kind-concluded (rule r) j W e y x q),
       holds,
-      gives-agrees r j W X e y x (rule-agrees (rule r) j W X e y x sane o l b d q i (true-list n c v X (narrowed-true wide fs))),
+      gives-agrees r j W X e y x (rule-agrees (rule r) j W X e y x sane o (a .subject) (a .event) (a .target) q i (true-list n c v X (narrowed-true wide fs))),
     )

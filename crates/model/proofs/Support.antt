@@ -12,8 +12,9 @@ use Rattle.integers.specs.Sum.{sum}
 use Rattle.integers.proofs.Linear.{ints, add-law, sub-law}
 use Rattle.integers.proofs.Sums.{sum-le, sum-le-but}
 use Rattle.integers.proofs.Tests.{decide, true-is, and-out, and-in, or-left, or-right, or-out}
-use Rattle.model.specs.Job.{End, t-min, t-max, h-min, h-max, meets, Windows, Inside, Reservoir, produces, consumes}
-use Rattle.model.specs.Levels.{Switch, ahead, Place, sure, possible, never, placed, place, gain, gains, most-in, most}
+use Rattle.model.specs.Job.{End, t-min, t-max, h-min, h-max, meets, Windows, Inside, produces, consumes, ahead}
+use Rattle.model.specs.View.{View}
+use Rattle.model.specs.Levels.{Place, sure, possible, never, placed, place, gain, gains, most-in, most, e-min, e-max, stands}
 use Rattle.model.specs.Rules.{targeted}
 use Rattle.model.specs.Facts.{any, first-late, last-early, left-out, surely-consumed, late, early, cites, says}
 use Rattle.model.proofs.Order.{meets-refl}
@@ -156,17 +157,17 @@ at-either true a c k x z w f g t = f tt t
 at-either false a c k x z w f g t = g tt t
 
 -- Question 15: what is quoted is true of the windows that it is read off; e's t ≤ only where v is no earlier than its t_max.
-module _ (s : Switch) (n : ℕ) (W : Windows) (e : ℕ) (v : ℤ) (top : Bool) (dropped : ℕ → Bool) where
-  pub cites-true : (T top → W e t-max ≤ℤ v) → Keeps n (cites s n W e (W e t-min) v top dropped) (says s n W e (W e t-min) v top dropped) W
+module _ (E : View) (W : Windows) (v : ℤ) (top : Bool) (dropped : ℕ → Bool) where
+  pub cites-true : (T top → e-max E W ≤ℤ v) → Keeps (E .events) (cites E W (e-min E W) v top dropped) (says E W (e-min E W) v) W
   cites-true h y m t-min t =
-      at-either (eqb y e) (any n (early s n W e (W e t-min) v top dropped)) (late s n W e (W e t-min) v top dropped y) t-min (W e t-min) (first-late (s y) v) (W y t-min)
-      (λ q _. rw (eqb→eq y e q) (meets-refl t-min (W e t-min)))
-      (λ q c. late-true (s y) v (W y t-min) (never-not (eqb y e) (s y) (ahead (s y) (W y t-max) (W e t-min)) (ahead (s y) (W y t-min) v) q (left-never (place s W e (W e t-min) v y) (W y h-max) (and-out (not (eqb y e)) (left-out (place s W e (W e t-min) v y) (W y h-max)) c .1))))
+      at-either (eqb y (E .subject)) (any (E .events) (early E W (e-min E W) v)) (late E W (e-min E W) v y) t-min (e-min E W) (first-late (E .before y) v) (W y t-min)
+      (λ q _. rw (eqb→eq y (E .subject) q) (meets-refl t-min (e-min E W)))
+      (λ q c. late-true (E .before y) v (W y t-min) (never-not (eqb y (E .subject)) (E .before y) (ahead (E .before y) (W y t-max) (e-min E W)) (ahead (E .before y) (W y t-min) v) q (left-never (place E W (e-min E W) v y) (W y h-max) (and-out (not (eqb y (E .subject))) (left-out (place E W (e-min E W) v y) (W y h-max)) c .1))))
       t
   cites-true h y m t-max t =
-      at-either (eqb y e) (top && any n (late s n W e (W e t-min) v top dropped)) (early s n W e (W e t-min) v top dropped y) t-max v (last-early (s y) (W e t-min)) (W y t-max)
-      (λ q c. rw (eqb→eq y e q) (h (and-out top (any n (late s n W e (W e t-min) v top dropped)) c .0) .le))
-      (λ q c. early-true (s y) (W e t-min) (W y t-max) (sure-is (eqb y e) (s y) (ahead (s y) (W y t-max) (W e t-min)) (ahead (s y) (W y t-min) v) q (consumed-sure (place s W e (W e t-min) v y) (W y h-max) (and-out (not (eqb y e)) (surely-consumed (place s W e (W e t-min) v y) (W y h-max)) c .1))))
+      at-either (eqb y (E .subject)) (top && any (E .events) (late E W (e-min E W) v)) (early E W (e-min E W) v y) t-max v (last-early (E .before y) (e-min E W)) (W y t-max)
+      (λ q c. rw (eqb→eq y (E .subject) q) (h (and-out top (any (E .events) (late E W (e-min E W) v)) c .0) .le))
+      (λ q c. early-true (E .before y) (e-min E W) (W y t-max) (sure-is (eqb y (E .subject)) (E .before y) (ahead (E .before y) (W y t-max) (e-min E W)) (ahead (E .before y) (W y t-min) v) q (consumed-sure (place E W (e-min E W) v y) (W y h-max) (and-out (not (eqb y (E .subject))) (surely-consumed (place E W (e-min E W) v y) (W y h-max)) c .1))))
       t
   cites-true h y m h-min t = absurd t
   cites-true h y m h-max t = meets-refl h-max (W y h-max)
@@ -180,90 +181,90 @@ pub record Opened (n : ℕ) (W X : Windows) : Type 0 where
   pub heights : (y : ℕ) → y < n → W y h-min ≤ℤ W y h-max
   pub signs : Signed n X
 
-pub opened-wider : {n : ℕ} {W X : Windows} → Opened n W X → (e : ℕ) → e < n → Wider n W X (W e t-min) (W e t-max) (X e t-min) (X e t-max)
-opened-wider o e l =
+pub opened-wider : (E : View) {W X : Windows} → Opened (E .events) W X → E .subject < E .events → Wider (E .events) W X (e-min E W) (e-max E W) (e-min E X) (e-max E X)
+opened-wider E o l =
     record {
       windows = o .wider;
       times = o .times;
-      from = record { le = o .wider .inside e l t-min };
-      range = o .times e l;
-      to = record { le = o .wider .inside e l t-max };
+      from = record { le = o .wider .inside (E .subject) l t-min };
+      range = o .times (E .subject) l;
+      to = record { le = o .wider .inside (E .subject) l t-max };
     }
 
 -- X keeps what is quoted of W at e with v for e's latest minute; in X that is v′.
-pub record Grounds (s : Switch) (n : ℕ) (W X : Windows) (e : ℕ) (v v′ : ℤ) (top : Bool) (dropped : ℕ → Bool) : Type 0 where
-  pub opened : Opened n W X
-  pub subject : e < n
-  pub kept : Keeps n (cites s n W e (W e t-min) v top dropped) (says s n W e (W e t-min) v top dropped) X
-  pub to-top : T top → v′ ≡ X e t-max
+pub record Grounds (E : View) (W X : Windows) (v v′ : ℤ) (top : Bool) (dropped : ℕ → Bool) : Type 0 where
+  pub opened : Opened (E .events) W X
+  pub subject : E .subject < E .events
+  pub kept : Keeps (E .events) (cites E W (e-min E W) v top dropped) (says E W (e-min E W) v) X
+  pub to-top : T top → v′ ≡ e-max E X
   pub to-bound : T (not top) → v′ ≡ v
 
-module _ {s : Switch} {n : ℕ} {W X : Windows} {e : ℕ} {v v′ : ℤ} {top : Bool} {dropped : ℕ → Bool} (g : Grounds s n W X e v v′ top dropped) where
+module _ {E : View} {W X : Windows} {v v′ : ℤ} {top : Bool} {dropped : ℕ → Bool} (g : Grounds E W X v v′ top dropped) where
   -- Where y stands to e in W and in X; is it quoted for coming late, or early.
   abbrev at-W : ℕ → Place
-  at-W y = place s W e (W e t-min) v y
+  at-W y = place E W (e-min E W) v y
 
   abbrev at-X : ℕ → Place
-  at-X y = place s X e (X e t-min) v′ y
+  at-X y = place E X (e-min E X) v′ y
 
   abbrev lates : ℕ → Bool
-  lates = late s n W e (W e t-min) v top dropped
+  lates = late E W (e-min E W) v
 
   abbrev earlies : ℕ → Bool
-  earlies = early s n W e (W e t-min) v top dropped
+  earlies = early E W (e-min E W) v
 
-  kinds : (y : ℕ) → y < n → SameKind (W y h-max) (X y h-max)
+  kinds : (y : ℕ) → y < E .events → SameKind (W y h-max) (X y h-max)
   kinds y l =
       record {
         produced = sym (same-producer (g .opened .wider) (g .opened .signs) (g .opened .heights) y l);
         consumed = sym (same-consumer (g .opened .wider) (g .opened .signs) (g .opened .heights) y l);
       }
 
-  lo : T (leZ (X e t-min) (W e t-min))
-  lo = g .opened .wider .inside e (g .subject) t-min
+  lo : T (leZ (e-min E X) (e-min E W))
+  lo = g .opened .wider .inside (E .subject) (g .subject) t-min
 
-  up-to : (y : ℕ) → y < n → T (lates y) → v′ ≤ℤ v
+  up-to : (y : ℕ) → y < E .events → T (lates y) → v′ ≤ℤ v
   up-to y l t = ⊎-elim quoted-top (λ d. rw (g .to-bound d) (omega ints)) (decide top)
     where
       quoted-top : T top → v′ ≤ℤ v
       quoted-top d =
           rw (g .to-top d)
           (record {
-            le = at-self (eqb e e) (top && any n lates) (earlies e) t-max v (last-early (s e) (W e t-min)) (X e t-max) (eqb-refl e) (g .kept e (g .subject) t-max) (and-in top (any n lates) d (any-in n y lates l t));
+            le = at-self (eqb (E .subject) (E .subject)) (top && any (E .events) lates) (earlies (E .subject)) t-max v (last-early (E .before (E .subject)) (e-min E W)) (e-max E X) (eqb-refl (E .subject)) (g .kept (E .subject) (g .subject) t-max) (and-in top (any (E .events) lates) d (any-in (E .events) y lates l t));
           })
 
-  from : (y : ℕ) → y < n → T (earlies y) → T (leZ (W e t-min) (X e t-min))
-  from y l t = at-self (eqb e e) (any n earlies) (lates e) t-min (W e t-min) (first-late (s e) v) (X e t-min) (eqb-refl e) (g .kept e (g .subject) t-min) (any-in n y earlies l t)
+  from : (y : ℕ) → y < E .events → T (earlies y) → T (leZ (e-min E W) (e-min E X))
+  from y l t = at-self (eqb (E .subject) (E .subject)) (any (E .events) earlies) (lates (E .subject)) t-min (e-min E W) (first-late (E .before (E .subject)) v) (e-min E X) (eqb-refl (E .subject)) (g .kept (E .subject) (g .subject) t-min) (any-in (E .events) y earlies l t)
 
-  stays-never : (y : ℕ) → y < n → T (left-out (at-W y) (W y h-max)) → at-X y ≡ never
+  stays-never : (y : ℕ) → y < E .events → T (left-out (at-W y) (W y h-max)) → at-X y ≡ never
   stays-never y l t =
-      placed-never (eqb y e) (s y) (ahead (s y) (W y t-max) (W e t-min)) (ahead (s y) (W y t-min) v) (ahead (s y) (X y t-max) (X e t-min)) (ahead (s y) (X y t-min) v′)
-      (ahead-le (s y) (X y t-max) (X e t-min) (W y t-max) (W e t-min) (record { le = g .opened .wider .inside y l t-max }) (record { le = lo }))
-      (λ q h. let c = and-in (not (eqb y e)) (left-out (at-W y) (W y h-max)) q t in
-      late-not (s y) v v′ (X y t-min) (at-other (eqb y e) (any n earlies) (lates y) t-min (W e t-min) (first-late (s y) v) (X y t-min) q (g .kept y l t-min) c) (up-to y l c) h)
+      placed-never (eqb y (E .subject)) (E .before y) (ahead (E .before y) (W y t-max) (e-min E W)) (ahead (E .before y) (W y t-min) v) (ahead (E .before y) (X y t-max) (e-min E X)) (ahead (E .before y) (X y t-min) v′)
+      (ahead-le (E .before y) (X y t-max) (e-min E X) (W y t-max) (e-min E W) (record { le = g .opened .wider .inside y l t-max }) (record { le = lo }))
+      (λ q h. let c = and-in (not (eqb y (E .subject))) (left-out (at-W y) (W y h-max)) q t in
+      late-not (E .before y) v v′ (X y t-min) (at-other (eqb y (E .subject)) (any (E .events) earlies) (lates y) t-min (e-min E W) (first-late (E .before y) v) (X y t-min) q (g .kept y l t-min) c) (up-to y l c) h)
       (left-never (at-W y) (W y h-max) t)
 
-  stays-sure : (y : ℕ) → y < n → T (surely-consumed (at-W y) (W y h-max)) → at-X y ≡ sure
+  stays-sure : (y : ℕ) → y < E .events → T (surely-consumed (at-W y) (W y h-max)) → at-X y ≡ sure
   stays-sure y l t =
-      placed-sure (eqb y e) (s y) (ahead (s y) (W y t-max) (W e t-min)) (ahead (s y) (W y t-min) v) (ahead (s y) (X y t-max) (X e t-min)) (ahead (s y) (X y t-min) v′)
-      (λ q. let c = and-in (not (eqb y e)) (surely-consumed (at-W y) (W y h-max)) q t in
-      early-ahead (s y) (W e t-min) (X e t-min) (X y t-max) (at-other (eqb y e) (top && any n lates) (earlies y) t-max v (last-early (s y) (W e t-min)) (X y t-max) q (g .kept y l t-max) c) (from y l c))
+      placed-sure (eqb y (E .subject)) (E .before y) (ahead (E .before y) (W y t-max) (e-min E W)) (ahead (E .before y) (W y t-min) v) (ahead (E .before y) (X y t-max) (e-min E X)) (ahead (E .before y) (X y t-min) v′)
+      (λ q. let c = and-in (not (eqb y (E .subject))) (surely-consumed (at-W y) (W y h-max)) q t in
+      early-ahead (E .before y) (e-min E W) (e-min E X) (X y t-max) (at-other (eqb y (E .subject)) (top && any (E .events) lates) (earlies y) t-max v (last-early (E .before y) (e-min E W)) (X y t-max) q (g .kept y l t-max) c) (from y l c))
       (consumed-sure (at-W y) (W y h-max) t)
 
   -- What a target adds is quoted, but where it is left out.
-  pub amount-kept : (y : ℕ) → y < n → T (not (dropped y)) → T (targeted (at-W y) (W y h-max)) → X y h-max ≤ℤ W y h-max
+  pub amount-kept : (y : ℕ) → y < E .events → T (not (dropped y)) → T (targeted (at-W y) (W y h-max)) → X y h-max ≤ℤ W y h-max
   amount-kept y l d t = record { le = g .kept y l h-max (and-in (not (dropped y)) (targeted (at-W y) (W y h-max)) d t) }
 
-  gains-backed : (y : ℕ) → y < n → T (not (dropped y)) → gains s X e (X e t-min) v′ y ≤ℤ gains s W e (W e t-min) v y
+  gains-backed : (y : ℕ) → y < E .events → T (not (dropped y)) → gains E X (e-min E X) v′ y ≤ℤ gains E W (e-min E W) v y
   gains-backed y l d = gain-backed (at-W y) (at-X y) (W y h-max) (X y h-max) (kinds y l) (amount-kept y l d) (stays-never y l) (stays-sure y l)
 
-  pub most-backed : (c : Reservoir) → ((y : ℕ) → y < n → T (not (dropped y))) → most-in s n c X e (X e t-min) v′ ≤ℤ most-in s n c W e (W e t-min) v
+  pub most-backed : ((y : ℕ) → y < E .events → T (not (dropped y))) → most-in E X (e-min E X) v′ ≤ℤ most-in E W (e-min E W) v
   unfolding most-in
-  most-backed c d =
-      let f = gains s X e (X e t-min) v′ in
-      let h = gains s W e (W e t-min) v in
-      let a = sum-le n f h (λ y l. gains-backed y l (d y l)) in
-      omega (ints, add-law (c .initial) (sum n f), add-law (c .initial) (sum n h))
+  most-backed d =
+      let f = gains E X (e-min E X) v′ in
+      let h = gains E W (e-min E W) v in
+      let a = sum-le (E .events) f h (λ y l. gains-backed y l (d y l)) in
+      omega (ints, add-law (E .opening) (sum (E .events) f), add-law (E .opening) (sum (E .events) h))
 
 -- ---- targets
 
@@ -273,23 +274,23 @@ needs-le low m h k g l = go (m -ℤ h) (k -ℤ g) (low -ℤ (m -ℤ h)) (low -�
     go : (a b x z : ℤ) → a ≡ m -ℤ h → b ≡ k -ℤ g → x ≡ low -ℤ a → z ≡ low -ℤ b → x ≤ℤ z
     go a b x z p q r t = omega (ints, add-law k h, add-law m g)
 
-module _ {s : Switch} {n : ℕ} {W X : Windows} {e : ℕ} {top : Bool} {dropped : ℕ → Bool} (g : Grounds s n W X e (W e t-max) (X e t-max) top dropped) where
-  module _ (c : Reservoir) (y : ℕ) (l : y < n) (t : T (targeted (place s W e (W e t-min) (W e t-max) y) (W y h-max))) where
-    pub targets-backed : T (targeted (place s X e (X e t-min) (X e t-max) y) (X y h-max))
+module _ {E : View} {W X : Windows} {top : Bool} {dropped : ℕ → Bool} (g : Grounds E W X (e-max E W) (e-max E X) top dropped) where
+  module _ (y : ℕ) (l : y < E .events) (t : T (targeted (stands E W y) (W y h-max))) where
+    pub targets-backed : T (targeted (stands E X y) (X y h-max))
     targets-backed =
-        target-backed (place s W e (W e t-min) (W e t-max) y) (place s X e (X e t-min) (X e t-max) y) (W y h-max) (X y h-max) (kinds g y l)
-        (place-weaker s c e (opened-wider (g .opened) e (g .subject)) y l)
+        target-backed (stands E W y) (stands E X y) (W y h-max) (X y h-max) (kinds g y l)
+        (place-weaker E (opened-wider E (g .opened) (g .subject)) y l)
         (stays-sure g y l)
         t
 
     -- The bound on a target is no weaker, also where its own amount is not quoted.
-    pub needs-backed : ((z : ℕ) → z < n → (z ≡ y → ⊥) → T (not (dropped z))) → (c .min-level -ℤ (most s n c W e -ℤ W y h-max)) ≤ℤ (c .min-level -ℤ (most s n c X e -ℤ X y h-max))
+    pub needs-backed : ((z : ℕ) → z < E .events → (z ≡ y → ⊥) → T (not (dropped z))) → (E .limit -ℤ (most E W -ℤ W y h-max)) ≤ℤ (E .limit -ℤ (most E X -ℤ X y h-max))
     unfolding most-in
     needs-backed d =
-        let f = gains s X e (X e t-min) (X e t-max) in
-        let h = gains s W e (W e t-min) (W e t-max) in
-        let a = sum-le-but n y f h l (λ z m i. gains-backed g z m (d z m i)) in
-        let p : h y ≡ W y h-max = target-gain (place s W e (W e t-min) (W e t-max) y) (W y h-max) t in
-        let q : f y ≡ X y h-max = target-gain (place s X e (X e t-min) (X e t-max) y) (X y h-max) targets-backed in
-        needs-le (c .min-level) (most s n c W e) (W y h-max) (most s n c X e) (X y h-max)
-        (omega (ints, add-law (c .initial) (sum n f), add-law (c .initial) (sum n h), add-law (sum n f) (h y), add-law (sum n h) (f y), add-law (most s n c X e) (W y h-max), add-law (most s n c W e) (X y h-max)))
+        let f = gains E X (e-min E X) (e-max E X) in
+        let h = gains E W (e-min E W) (e-max E W) in
+        let a = sum-le-but (E .events) y f h l (λ z m i. gains-backed g z m (d z m i)) in
+        let p : h y ≡ W y h-max = target-gain (stands E W y) (W y h-max) t in
+        let q : f y ≡ X y h-max = target-gain (stands E X y) (X y h-max) targets-backed in
+        needs-le (E .limit) (most E W) (W y h-max) (most E X) (X y h-max)
+        (omega (ints, add-law (E .opening) (sum (E .events) f), add-law (E .opening) (sum (E .events) h), add-law (sum (E .events) f) (h y), add-law (sum (E .events) h) (f y), add-law (most E X) (W y h-max), add-law (most E W) (X y h-max)))

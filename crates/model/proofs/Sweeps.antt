@@ -1,94 +1,94 @@
--- An attempt of the planner: which ones a round makes, what each does; what every attempt keeps, every sweep and round keeps.
+-- An attempt of the planner: those of the agenda are the job's, what each does; what every attempt keeps, a round keeps.
 -- Assumes nothing.
-use mathlib.Core.Path.{_≡_, refl}
+use mathlib.Core.Path.{_≡_, refl, sym, ap, _∙_}
 use mathlib.Core.Bool.{Bool, true, false, cond}
-use mathlib.Core.List.{List, _++_}
+use mathlib.Core.List.{List, [], _∷_, _++_, append-nil, append-assoc}
 use Prim.Native.Nat.{ℕ, zero, suc, _+_, _≤_, _<_}
+use native.Mathlib.Numerals.{add-one}
 use native.Mathlib.Omega.{arith}
 use lib.Dec.{T, eqb-refl}
-use lib.IntN.{ℤ}
+use lib.IntN.{ℤ, pos}
 use lib.ListN.{length, set}
-use Rattle.model.specs.Job.{slot, windows, Job, lags, lag-a, lag-b}
-use Rattle.model.specs.Rules.{reservoir, level, time, height, rule, own-end, finding, Effect, idle, narrows, fails, effect}
+use Rattle.model.specs.Job.{slot, windows, Job, lags, lag-a, lag-b, events}
+use Rattle.model.specs.Standing.{Sane}
+use Rattle.model.specs.Rules.{reservoir, level, time, height, rule, own-end, finding, Effect, idle, narrows, fails, effect, known-rule}
 use Rattle.model.specs.Slips.{Explanation, slip-words, explanation}
-use Rattle.model.specs.Rounds.{conflict, stopped, Status, running, ended, State, fits, acted, attempt, lags-from, targets-from, three-rules, event-rules, events-from, round}
-use Rattle.model.specs.Reader.{subjects, target-fits}
-use Rattle.model.proofs.Standing.{Sane}
+use Rattle.model.specs.Agenda.{Attempt, try, each-of, lag-attempts, three-attempts, event-attempts, agenda, Each, Allowed, Valid}
+use Rattle.model.specs.Rounds.{conflict, stopped, Status, running, ended, State, fits, acted, attempt, round, made}
 
--- ---- attempts
+-- ---- the agenda
 
--- Subject and target are those of rule r in the job, r in 1..14.
-pub record Valid (j : Job) (r e y : ℕ) : Type 0 where
-  pub rule-low : 1 ≤ r
-  pub rule-high : r ≤ 14
-  pub subject : e < subjects (rule r) j
-  pub event : y < j .events
-  pub target : T (target-fits (rule r) j e y)
+pub each-append : {A : Type 0} (P : A → Type 0) (xs ys : List A) → Each P xs → Each P ys → Each P (xs ++ ys)
+each-append P [] ys p q = q
+each-append P (x ∷ xs) ys p q = (p .0, each-append P xs ys (p .1) q)
+
+pub each-of-all : {A : Type 0} (P : A → Type 0) (f : ℕ → List A) (n i k : ℕ) → ((y : ℕ) → y < n → Each P (f y)) → i + k ≤ n → Each P (each-of f i k)
+unfolding each-of
+each-of-all P f n i zero h l = tt
+each-of-all P f n i (suc k) h l = each-append P (f i) (each-of f (i + 1) k) (h i (omega arith)) (each-of-all P f n (i + 1) k h (omega arith))
 
 module _ (j : Job) (sane : Sane j) where
-  -- Rules 1 and 2 of a lag.
-  pub valid-upper : (g : ℕ) → g < lags j → Valid j 1 g (lag-a j g)
-  valid-upper g l = record { rule-low = omega arith; rule-high = omega arith; subject = l; event = sane .real-a g l; target = eqb-refl (lag-a j g) }
+  lag-valid : (g : ℕ) → g < lags j → Each (Allowed j) (lag-attempts j g)
+  lag-valid g l = (
+    record { known = tt; subject = l; event = sane .lag g l .real-a; target = eqb-refl (lag-a j g) },
+    (record { known = tt; subject = l; event = sane .lag g l .real-b; target = eqb-refl (lag-b j g) }, tt),
+  )
 
-  pub valid-lower : (g : ℕ) → g < lags j → Valid j 2 g (lag-b j g)
-  valid-lower g l = record { rule-low = omega arith; rule-high = omega arith; subject = l; event = sane .real-b g l; target = eqb-refl (lag-b j g) }
+  -- Rules r, r + 1 and r + 2 are the level's, the time's and the amount's of one side and switch.
+  three-valid : (r : ℕ) (m b : Bool) → T (known-rule (pos r)) → T (known-rule (pos (r + 1))) → T (known-rule (pos (r + 2))) → rule r ≡ reservoir m b level → rule (r + 1) ≡ reservoir m b time → rule (r + 2) ≡ reservoir m b height →
+      (e : ℕ) → e < events j → Each (Allowed j) (three-attempts j r e)
+  three-valid r m b k1 k2 k3 f g h e l = (
+    record { known = k1; subject = rw f l; event = l; target = rw f (eqb-refl e) },
+    (
+      record { known = k2; subject = rw g l; event = l; target = rw g (eqb-refl e) },
+      each-of-all (Allowed j) (λ y. try (r + 2) e y ∷ []) (events j) 0 (events j) (λ y n. (record { known = k3; subject = rw h l; event = n; target = rw h tt }, tt)) (omega arith),
+    ),
+  )
 
--- Three rules in a row at an event, the third with any target.
-pub record Valid-three (j : Job) (r : ℕ) : Type 0 where
-  pub first : (e : ℕ) → e < j .events → Valid j r e e
-  pub second : (e : ℕ) → e < j .events → Valid j (r + 1) e e
-  pub third : (e y : ℕ) → e < j .events → y < j .events → Valid j (r + 2) e y
+  event-valid : (e : ℕ) → e < events j → Each (Allowed j) (event-attempts j e)
+  event-valid e l =
+      each-append (Allowed j) (three-attempts j 3 e) _ (three-valid 3 false true tt tt tt refl refl refl e l)
+      (each-append (Allowed j) (three-attempts j 6 e) _ (three-valid 6 true true tt tt tt refl refl refl e l)
+      (each-append (Allowed j) (three-attempts j 9 e) _ (three-valid 9 false false tt tt tt refl refl refl e l)
+      (three-valid 12 true false tt tt tt refl refl refl e l)))
 
--- Rules r, r + 1 and r + 2 are the level's, the time's and the amount's of one side and switch.
-pub three-valid : (j : Job) (r : ℕ) (m b : Bool) → 1 ≤ r → r ≤ 12 → rule r ≡ reservoir m b level → rule (r + 1) ≡ reservoir m b time → rule (r + 2) ≡ reservoir m b height → Valid-three j r
-three-valid j r m b low high f g h =
-    record {
-      first = λ e l. record { rule-low = omega arith; rule-high = omega arith; subject = rw f l; event = l; target = rw f (eqb-refl e) };
-      second = λ e l. record { rule-low = omega arith; rule-high = omega arith; subject = rw g l; event = l; target = rw g (eqb-refl e) };
-      third = λ e y l n. record { rule-low = omega arith; rule-high = omega arith; subject = rw h l; event = n; target = rw h tt };
-    }
+  -- Every attempt of a round is one of the job's.
+  pub agenda-valid : Each (Allowed j) (agenda j)
+  unfolding agenda
+  agenda-valid =
+      each-append (Allowed j) (each-of (lag-attempts j) 0 (lags j)) _ (each-of-all (Allowed j) (lag-attempts j) (lags j) 0 (lags j) lag-valid (omega arith))
+      (each-of-all (Allowed j) (event-attempts j) (events j) 0 (events j) event-valid (omega arith))
+
+-- ---- attempts in turn
+
+pub made-append : (room : ℕ) (j : Job) (xs ys : List Attempt) (s : State) → made room j (xs ++ ys) s ≡ made room j ys (made room j xs s)
+unfolding made
+made-append room j [] ys s = refl
+made-append room j (x ∷ xs) ys s = made-append room j xs ys (attempt room (x .rule) j (x .subject) (x .target) s)
+
+-- A list for i, i + 1, .., of one more at its end.
+each-of-more : {A : Type 0} (f : ℕ → List A) (i k : ℕ) → each-of f i (suc k) ≡ each-of f i k ++ f (i + k)
+unfolding each-of
+each-of-more f i zero = append-nil (f i) ∙ ap f (omega arith)
+each-of-more f i (suc k) =
+    let e : (i + 1) + k ≡ i + suc k = omega arith in
+    ap (λ xs. f i ++ xs) (each-of-more f (i + 1) k ∙ ap (λ z. each-of f (i + 1) k ++ f z) e) ∙ sym (append-assoc (f i) (each-of f (i + 1) k) (f (i + suc k)))
+
+-- A loop from 0 on: what was made so far, then what f has for i.
+pub made-more : (room : ℕ) (j : Job) (f : ℕ → List Attempt) (i : ℕ) (s : State) → made room j (each-of f 0 (i + 1)) s ≡ made room j (f i) (made room j (each-of f 0 i) s)
+made-more room j f i s =
+    let e : 0 + i ≡ i = omega arith in
+    rw (add-one i, each-of-more f 0 i, e) (made-append room j (each-of f 0 i) (f i) s)
 
 -- What every attempt keeps, a round keeps.
-module _ (room : ℕ) (j : Job) (sane : Sane j) (P : State → Type 0) (attempt-keeps : (r e y : ℕ) → Valid j r e y → (s : State) → P s → P (attempt room r j e y s)) where
-  pub lags-keep : (g k : ℕ) (s : State) → g + k ≤ lags j → P s → P (lags-from room j g k s)
-  unfolding lags-from
-  lags-keep g zero s l p = p
-  lags-keep g (suc k) s l p =
-      let a = attempt-keeps 1 g (lag-a j g) (valid-upper j sane g (omega arith)) s p in
-      let b = attempt-keeps 2 g (lag-b j g) (valid-lower j sane g (omega arith)) (attempt room 1 j g (lag-a j g) s) a in
-      lags-keep (g + 1) k (attempt room 2 j g (lag-b j g) (attempt room 1 j g (lag-a j g) s)) (omega arith) b
+module _ (room : ℕ) (j : Job) (P : State → Type 0) (attempt-keeps : (r e y : ℕ) → Valid j r e y → (s : State) → P s → P (attempt room r j e y s)) where
+  pub made-keeps : (xs : List Attempt) → Each (Allowed j) xs → (s : State) → P s → P (made room j xs s)
+  unfolding made
+  made-keeps [] v s p = p
+  made-keeps (x ∷ xs) v s p = made-keeps xs (v .1) (attempt room (x .rule) j (x .subject) (x .target) s) (attempt-keeps (x .rule) (x .subject) (x .target) (v .0) s p)
 
-  pub targets-keep : (r e : ℕ) → ((y : ℕ) → y < j .events → Valid j r e y) → (y k : ℕ) (s : State) → y + k ≤ j .events → P s → P (targets-from room j r e y k s)
-  unfolding targets-from
-  targets-keep r e valid y zero s l p = p
-  targets-keep r e valid y (suc k) s l p = targets-keep r e valid (y + 1) k (attempt room r j e y s) (omega arith) (attempt-keeps r e y (valid y (omega arith)) s p)
-
-  pub three-keep : (r : ℕ) → Valid-three j r → (e : ℕ) → e < j .events → (s : State) → P s → P (three-rules room j r e s)
-  unfolding three-rules
-  three-keep r valid e l s p =
-      let a = attempt-keeps r e e (valid .first e l) s p in
-      let b = attempt-keeps (r + 1) e e (valid .second e l) (attempt room r j e e s) a in
-      targets-keep (r + 2) e (λ y. valid .third e y l) 0 (j .events) (attempt room (r + 1) j e e (attempt room r j e e s)) (omega arith) b
-
-  pub event-keep : (e : ℕ) → e < j .events → (s : State) → P s → P (event-rules room j e s)
-  unfolding event-rules
-  event-keep e l s p =
-      let a = three-keep 3 (three-valid j 3 false true (omega arith) (omega arith) refl refl refl) e l s p in
-      let s6 = three-rules room j 3 e s in
-      let b = three-keep 6 (three-valid j 6 true true (omega arith) (omega arith) refl refl refl) e l s6 a in
-      let s9 = three-rules room j 6 e s6 in
-      let c = three-keep 9 (three-valid j 9 false false (omega arith) (omega arith) refl refl refl) e l s9 b in
-      let s12 = three-rules room j 9 e s9 in
-      three-keep 12 (three-valid j 12 true false (omega arith) (omega arith) refl refl refl) e l s12 c
-
-  pub events-keep : (e k : ℕ) (s : State) → e + k ≤ j .events → P s → P (events-from room j e k s)
-  unfolding events-from
-  events-keep e zero s l p = p
-  events-keep e (suc k) s l p = events-keep (e + 1) k (event-rules room j e s) (omega arith) (event-keep e (omega arith) s p)
-
-  pub round-keeps : (s : State) → P s → P (round room j s)
-  unfolding round
-  round-keeps s p = events-keep 0 (j .events) (lags-from room j 0 (lags j) s) (omega arith) (lags-keep 0 (lags j) s (omega arith) p)
+  pub round-keeps : Sane j → (s : State) → P s → P (round room j s)
+  round-keeps sane s p = made-keeps (agenda j) (agenda-valid j sane) s p
 
 -- ---- what an attempt does
 

@@ -10,13 +10,13 @@ use lib.Dec.{T, eqb, eqb→eq}
 use lib.IntN.{ℤ, pos}
 use lib.ListN.{length, set}
 use lib.Seq.{getD-set-same, getD-set-other}
-use lib.Signed.{leZ, _≤ℤ_, leZ-yes}
-use Rattle.integers.proofs.Linear.{ints, leZ-false}
+use lib.Signed.{_≤ℤ_, leZ-yes}
 use Rattle.integers.proofs.Tests.{is-true, not-true, and-out}
-use Rattle.model.specs.Job.{End, t-min, t-max, h-min, h-max, opposite, meets, word, slot, Windows, windows, widest, Job}
+use Rattle.model.specs.Job.{End, t-min, t-max, h-min, h-max, opposite, meets, word, slot, Windows, windows, widest, Job, events}
+use Rattle.model.specs.Standing.{Standing}
 use Rattle.model.specs.Rules.{Finding, nothing, clash, bound, idle, narrows, fails, effect}
 use Rattle.model.specs.Reader.{same-end}
-use Rattle.model.proofs.Standing.{Standing}
+use Rattle.model.proofs.Order.{meets-trans, meets-not, same-end-is}
 
 -- ---- one word stored
 
@@ -85,32 +85,12 @@ stored-is : (b : Bool) (v w : ℤ) (P : ℤ → Type 0) → (T b → P v) → P 
 stored-is true v w P f g = f tt
 stored-is false v w P f g = g
 
+-- Between a wider bound and a value that does not meet it.
 inward : (k : End) (u v w : ℤ) → T (meets k u w) → T (not (meets k v w)) → T (meets k u v)
-inward t-min u v w a b = omega (ints, leZ-false v w (not-true (leZ v w) b))
-inward t-max u v w a b = omega (ints, leZ-false w v (not-true (leZ w v) b))
-inward h-min u v w a b = omega (ints, leZ-false v w (not-true (leZ v w) b))
-inward h-max u v w a b = omega (ints, leZ-false w v (not-true (leZ w v) b))
-
-same-end-is : (k l : End) → T (same-end l k) → l ≡ k
-same-end-is t-min t-min t = refl
-same-end-is t-min t-max t = absurd t
-same-end-is t-min h-min t = absurd t
-same-end-is t-min h-max t = absurd t
-same-end-is t-max t-min t = absurd t
-same-end-is t-max t-max t = refl
-same-end-is t-max h-min t = absurd t
-same-end-is t-max h-max t = absurd t
-same-end-is h-min t-min t = absurd t
-same-end-is h-min t-max t = absurd t
-same-end-is h-min h-min t = refl
-same-end-is h-min h-max t = absurd t
-same-end-is h-max t-min t = absurd t
-same-end-is h-max t-max t = absurd t
-same-end-is h-max h-min t = absurd t
-same-end-is h-max h-max t = refl
+inward k u v w a b = meets-trans k u w v a (meets-not k v w b)
 
 -- A narrowing keeps the windows standing.
-module _ (j : Job) (sent W : Windows) (std : Standing j sent W) (y : ℕ) (event : y < j .events) (v : ℤ) where
+module _ (j : Job) (W : Windows) (std : Standing j W) (y : ℕ) (event : y < events j) (v : ℤ) where
   times-kept : (k : End) → Narrows W y k v → (z : ℕ) → W z t-min ≤ℤ W z t-max → store W y k v z t-min ≤ℤ store W y k v z t-max
   times-kept t-min n z h = stored-is (eqb z y) v (W z t-min) (λ x. x ≤ℤ W z t-max) (λ t. rw (eqb→eq z y t) (leZ-yes (n .room))) h
   times-kept t-max n z h = stored-is (eqb z y) v (W z t-max) (λ x. W z t-min ≤ℤ x) (λ t. rw (eqb→eq z y t) (leZ-yes (n .room))) h
@@ -123,22 +103,22 @@ module _ (j : Job) (sent W : Windows) (std : Standing j sent W) (y : ℕ) (event
   heights-kept h-min n z h = stored-is (eqb z y) v (W z h-min) (λ x. x ≤ℤ W z h-max) (λ t. rw (eqb→eq z y t) (leZ-yes (n .room))) h
   heights-kept h-max n z h = stored-is (eqb z y) v (W z h-max) (λ x. W z h-min ≤ℤ x) (λ t. rw (eqb→eq z y t) (leZ-yes (n .room))) h
 
-  hit : (k : End) → Narrows W y k v → (z : ℕ) (l : End) → T (same-end l k && eqb z y) → T (meets l (widest (j .horizon) sent z l) v)
+  hit : (k : End) → Narrows W y k v → (z : ℕ) (l : End) → T (same-end l k && eqb z y) → T (meets l (widest j z l) v)
   hit k n z l t =
       let a = and-out (same-end l k) (eqb z y) t in
-      rw (same-end-is k l (a .0), eqb→eq z y (a .1)) (inward k (widest (j .horizon) sent y k) v (W y k) (std .within .inside y event k) (n .stricter))
+      rw (same-end-is l k (a .0), eqb→eq z y (a .1)) (inward k (widest j y k) v (W y k) (std .within .inside y event k) (n .stricter))
 
-  pub standing-store : (k : End) → Narrows W y k v → Standing j sent (store W y k v)
+  pub standing-store : (k : End) → Narrows W y k v → Standing j (store W y k v)
   standing-store k n = record {
-    within = record { inside = λ z m l. stored-is (same-end l k && eqb z y) v (W z l) (λ x. T (meets l (widest (j .horizon) sent z l) x)) (hit k n z l) (std .within .inside z m l) };
+    within = record { inside = λ z m l. stored-is (same-end l k && eqb z y) v (W z l) (λ x. T (meets l (widest j z l) x)) (hit k n z l) (std .within .inside z m l) };
     times = λ z m. times-kept k n z (std .times z m);
     heights = λ z m. heights-kept k n z (std .heights z m);
   }
 
 -- The same of a table, from the effect that a rule has on it.
-pub standing-narrow : (j : Job) (sent : Windows) (table : List ℤ) (y : ℕ) (k : End) (f : Finding) (v : ℤ) → length table ≡ 4 * j .events → y < j .events →
-    Standing j sent (windows table) → effect k (windows table) y f ≡ narrows v → Standing j sent (windows (set table (slot y k) v))
-standing-narrow j sent table y k f v long event std e =
+pub standing-narrow : (j : Job) (table : List ℤ) (y : ℕ) (k : End) (f : Finding) (v : ℤ) → length table ≡ 4 * events j → y < events j →
+    Standing j (windows table) → effect k (windows table) y f ≡ narrows v → Standing j (windows (set table (slot y k) v))
+standing-narrow j table y k f v long event std e =
     let n = narrows-bound k (windows table) y f v e .1 in
-    let there : slot y k < length table = omega (arith, slot-inside (j .events) y k event) in
-    rw (windows-stored table y k v there) (standing-store j sent (windows table) std y event v k n)
+    let there : slot y k < length table = omega (arith, slot-inside (events j) y k event) in
+    rw (windows-stored table y k v there) (standing-store j (windows table) std y event v k n)

@@ -3,21 +3,21 @@
 use mathlib.Core.Path.{_≡_, refl, sym, _∙_}
 use mathlib.Core.Bool.{Bool, true, false}
 use mathlib.Core.List.{List, [], _∷_, _++_}
-use Prim.Native.Nat.{ℕ, _*_, _≤_}
+use Prim.Native.Nat.{ℕ, _*_}
 use native.Mathlib.Omega.{arith}
+use lib.Dec.{T}
 use lib.IntN.{ℤ, pos}
 use lib.ListN.{length, set, length-set}
 use Rattle.integers.specs.Range.{eqZ}
-use Rattle.integers.proofs.Linear.{ints}
-use Rattle.model.specs.Job.{End, t-min, t-max, h-min, h-max, slot, Windows, windows, Job}
-use Rattle.model.specs.Rules.{rule, own-end, finding, Effect, idle, narrows, fails, effect}
-use Rattle.model.specs.Slips.{number, Explanation, explanation}
+use Rattle.model.specs.Job.{End, t-min, t-max, h-min, h-max, slot, Windows, windows, Job, events}
+use Rattle.model.specs.Standing.{Sane, Standing}
+use Rattle.model.specs.Rules.{rule, own-end, finding, Effect, idle, narrows, fails, effect, known-rule}
 use Rattle.model.specs.Facts.{quotes, quoted}
+use Rattle.model.specs.Slips.{number, Explanation, explanation}
+use Rattle.model.specs.Agenda.{Valid}
 use Rattle.model.specs.Reader.{is-conflict, applied}
-use Rattle.model.proofs.Standing.{Sane, Standing}
 use Rattle.model.proofs.Words.{premise-list-length, Formed}
 use Rattle.model.proofs.Table.{standing-narrow}
-use Rattle.model.proofs.Sweeps.{Valid}
 
 -- ---- one slip
 
@@ -33,12 +33,11 @@ pub record Wrote (j : Job) (table : List ℤ) (x : Explanation) : Type 0 where
   pub slip-is : x ≡ explanation r j (windows table) e y outcome
 
 -- The planner's slips are formed: rule 1..14, at most 256 facts.
-pub formed-explanation : (j : Job) → Sane j → (W : Windows) (r e y : ℕ) (x : Effect) → 1 ≤ r → r ≤ 14 → Formed (explanation r j W e y x)
-formed-explanation j sane W r e y x low high =
+pub formed-explanation : (j : Job) → Sane j → (W : Windows) (r e y : ℕ) (x : Effect) → T (known-rule (pos r)) → Formed (explanation r j W e y x)
+formed-explanation j sane W r e y x known =
     record {
-      rule-low = omega ints;
-      rule-high = omega ints;
-      few-premises = omega (arith, sane .few-events, premise-list-length (j .events) (quotes (rule r) j W e y x) (quoted (rule r) j W e y x));
+      rule-known = known;
+      few-premises = omega (arith, sane .few-events, premise-list-length (events j) (quotes (rule r) j W e y x) (quoted (rule r) j W e y x));
     }
 
 own-kind : (k : End) → eqZ (pos (number k)) (pos 0) ≡ false
@@ -114,17 +113,17 @@ narrowings-open (x ∷ xs) n = rw (n .0) (narrowings-open xs (n .1))
 -- ---- the windows after a slip
 
 -- A slip of the planner keeps the table whole and its windows standing.
-pub wrote-standing : (j : Job) (sent : Windows) (table : List ℤ) (x : Explanation) → length table ≡ 4 * j .events → Standing j sent (windows table) → Wrote j table x
-    → (length (applied table x) ≡ 4 * j .events) × Standing j sent (windows (applied table x))
-wrote-standing j sent table x long std w = rw (w .slip-is) (go (w .outcome) (w .outcome-is) (w .busy))
+pub wrote-standing : (j : Job) (table : List ℤ) (x : Explanation) → length table ≡ 4 * events j → Standing j (windows table) → Wrote j table x
+    → (length (applied table x) ≡ 4 * events j) × Standing j (windows (applied table x))
+wrote-standing j table x long std w = rw (w .slip-is) (go (w .outcome) (w .outcome-is) (w .busy))
   where
     go : (o : Effect) → o ≡ effect (own-end (rule (w .r))) (windows table) (w .y) (finding (rule (w .r)) j (windows table) (w .e) (w .y)) → (o ≡ idle → ⊥)
-        → (length (applied table (explanation (w .r) j (windows table) (w .e) (w .y) o)) ≡ 4 * j .events)
-        × Standing j sent (windows (applied table (explanation (w .r) j (windows table) (w .e) (w .y) o)))
+        → (length (applied table (explanation (w .r) j (windows table) (w .e) (w .y) o)) ≡ 4 * events j)
+        × Standing j (windows (applied table (explanation (w .r) j (windows table) (w .e) (w .y) o)))
     go idle is busy = absurd (busy refl)
     go (narrows v) is busy =
         let k = own-end (rule (w .r)) in
         let f = finding (rule (w .r)) j (windows table) (w .e) (w .y) in
         rw (narrows-applied j (windows table) (w .r) (w .e) (w .y) v table)
-        (length-set table (slot (w .y) k) v ∙ long, standing-narrow j sent table (w .y) k f v long (w .valid .event) std (sym is))
+        (length-set table (slot (w .y) k) v ∙ long, standing-narrow j table (w .y) k f v long (w .valid .event) std (sym is))
     go fails is busy = (long, std)

@@ -4,8 +4,9 @@ use Prim.Native.Nat.{ℕ, zero, suc}
 use lib.Dec.{eqb}
 use lib.IntN.{ℤ, pos, _+ℤ_, _-ℤ_}
 use Rattle.model.specs.Job.{End, t-min, t-max, h-min, h-max, Windows, Job, produces, consumes, lag-a, lag-b}
-use Rattle.model.specs.Levels.{Switch, Place, sure, possible, never, place, side-value, side-end, side}
-use Rattle.model.specs.Rules.{Family, level, time, height, Rule, lag-upper, lag-lower, reservoir, switch, targeted, Effect, idle, narrows, fails, failed}
+use Rattle.model.specs.View.{side-value, side-end, View, view, seen}
+use Rattle.model.specs.Levels.{Place, sure, possible, never, place, e-min, e-max}
+use Rattle.model.specs.Rules.{Family, level, time, height, Rule, lag-upper, lag-lower, reservoir, targeted, Effect, idle, narrows, fails, failed, is-narrowing}
 
 -- Is it so for one of the first n events?
 unfoldable pub any : ℕ → (ℕ → Bool) → Bool
@@ -32,24 +33,26 @@ surely-consumed sure h = consumes h
 surely-consumed possible h = false
 surely-consumed never h = false
 
--- Rules 3 to 5 and 9 to 11 at e, whose time window is u..v: is e's own t ≤ quoted (top), is y's h ≤ left out (dropped y)?
-module _ (s : Switch) (n : ℕ) (W : Windows) (e : ℕ) (u v : ℤ) (top : Bool) (dropped : ℕ → Bool) where
+-- Rules 3 to 5 and 9 to 11 at e, whose time window is u..v.
+module _ (E : View) (W : Windows) (u v : ℤ) where
+  -- A delivery other than e that is not counted; a pull other than e that surely is.
   abbrev pub late : ℕ → Bool
-  late y = not (eqb y e) && left-out (place s W e u v y) (W y h-max)
+  late y = not (eqb y (E .subject)) && left-out (place E W u v y) (W y h-max)
 
   abbrev pub early : ℕ → Bool
-  early y = not (eqb y e) && surely-consumed (place s W e u v y) (W y h-max)
+  early y = not (eqb y (E .subject)) && surely-consumed (place E W u v y) (W y h-max)
 
   -- A delivery not counted: t(y) ≥ and t(e) ≤. A pull surely counted: t(y) ≤, t(e) ≥ and h ≤. A delivery counted, and by e itself unless neutral: h ≤.
-  abbrev pub cites : ℕ → End → Bool
-  cites y t-min = cond (eqb y e) (any n early) (late y)
-  cites y t-max = cond (eqb y e) (top && any n late) (early y)
-  cites y h-min = false
-  cites y h-max = not (dropped y) && targeted (place s W e u v y) (W y h-max)
+  -- Is e's own t ≤ quoted at all (top), is y's h ≤ left out (dropped y)?
+  abbrev pub cites : Bool → (ℕ → Bool) → ℕ → End → Bool
+  cites top dropped y t-min = cond (eqb y (E .subject)) (any (E .events) early) (late y)
+  cites top dropped y t-max = cond (eqb y (E .subject)) (top && any (E .events) late) (early y)
+  cites top dropped y h-min = false
+  cites top dropped y h-max = not (dropped y) && targeted (place E W u v y) (W y h-max)
 
   abbrev pub says : ℕ → End → ℤ
-  says y t-min = cond (eqb y e) u (first-late (s y) v)
-  says y t-max = cond (eqb y e) v (last-early (s y) u)
+  says y t-min = cond (eqb y (E .subject)) u (first-late (E .before y) v)
+  says y t-max = cond (eqb y (E .subject)) v (last-early (E .before y) u)
   says y h-min = W y h-min
   says y h-max = W y h-max
 
@@ -67,20 +70,20 @@ quotes-top time = false
 quotes-top height = true
 
 -- Rules 5 and 11: as rule 3 without the target's h ≤. A conflict of theirs quotes the opposite end too, which is just that.
+abbrev pub spares : Family → Effect → Bool
+spares level x = false
+spares time x = false
+spares height x = is-narrowing x
+
 abbrev pub drops : Family → Effect → ℕ → ℕ → Bool
-drops level x y z = false
-drops time x y z = false
-drops height idle y z = false
-drops height (narrows v) y z = eqb z y
-drops height fails y z = false
+drops f x y z = spares f x && eqb z y
 
-abbrev pub family-cites : Family → Switch → ℕ → Windows → ℕ → ℕ → Effect → ℕ → End → Bool
-family-cites f s n W e y x =
-    cites s n W e (W e t-min) (latest f (W e t-max) x) (quotes-top f) (drops f x y)
+abbrev pub family-cites : Family → View → Windows → ℕ → Effect → ℕ → End → Bool
+family-cites f E W y x =
+    cites E W (e-min E W) (latest f (e-max E W) x) (quotes-top f) (drops f x y)
 
-abbrev pub family-says : Family → Switch → ℕ → Windows → ℕ → ℕ → Effect → ℕ → End → ℤ
-family-says f s n W e y x =
-    says s n W e (W e t-min) (latest f (W e t-max) x) (quotes-top f) (drops f x y)
+abbrev pub family-says : Family → View → Windows → Effect → ℕ → End → ℤ
+family-says f E W x = says E W (e-min E W) (latest f (e-max E W) x)
 
 -- Rules 1 and 2: the end read, t_max(b) or t_min(a); of a conflict also the opposite end of the target.
 abbrev pub lag-cites : Bool → Bool → Job → ℕ → ℕ → End → Bool
@@ -94,10 +97,10 @@ lag-cites a b j g z h-max = false
 unfoldable pub quotes : Rule → Job → Windows → ℕ → ℕ → Effect → ℕ → End → Bool
 quotes lag-upper j W e y x z k = lag-cites (failed x) true j e z k
 quotes lag-lower j W e y x z k = lag-cites true (failed x) j e z k
-quotes (reservoir m b f) j W e y x z k = family-cites f (switch b) (j .events) (side m W) e y x z (side-end m k)
+quotes (reservoir m b f) j W e y x z k = family-cites f (view j m b e) (seen j m e W) y x z (side-end m k)
 
 unfoldable pub quoted : Rule → Job → Windows → ℕ → ℕ → Effect → ℕ → End → ℤ
 quoted lag-upper j W e y x z k = W z k
 quoted lag-lower j W e y x z k = W z k
 quoted (reservoir m b f) j W e y x z k =
-    side-value m k (family-says f (switch b) (j .events) (side m W) e y x z (side-end m k))
+    side-value m k (family-says f (view j m b e) (seen j m e W) x z (side-end m k))

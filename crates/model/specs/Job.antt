@@ -1,5 +1,6 @@
 -- Document 01, "The job": events and their windows, the job, schedules (day plans) and which of them are legal; "Tables": the window table and the lag table as words.
-use mathlib.Core.Bool.{Bool, cond}
+-- Read this first: everything else in specs/ speaks of it.
+use mathlib.Core.Bool.{Bool, true, false, cond}
 use mathlib.Core.List.{List}
 use Prim.Native.Nat.{ℕ, _+_, _*_, _/_, _<_}
 use lib.Dec.{T}
@@ -31,6 +32,11 @@ meets t-max v x = leZ x v
 meets h-min v x = leZ v x
 meets h-max v x = leZ x v
 
+-- One minute before another (true): <. By it (false): ≤.
+abbrev pub ahead : Bool → ℤ → ℤ → Bool
+ahead true a b = ltZ a b
+ahead false a b = leZ a b
+
 -- A delivery if h > 0, a pull if h < 0, else neutral.
 abbrev pub produces : ℤ → Bool
 produces h = ltZ (pos 0) h
@@ -60,38 +66,45 @@ pub record Reservoir : Type 0 where
   pub max-level : ℤ
   pub initial : ℤ
 
--- The job: horizon H, the reservoir, the number of events, the lag table's words.
+-- The job: the words of a call as they are sent: horizon H, the reservoir, the window table, the lag table. Every job is a call's.
+-- What a call never changes, as the number of events, is read off the job; where its windows stand is told beside it.
 pub record Job : Type 0 where
   pub horizon : ℤ
   pub reservoir : Reservoir
-  pub events : ℕ
+  pub window-table : List ℤ
   pub lag-table : List ℤ
 
--- The job of a call.
 abbrev pub job : ℤ → ℤ → ℤ → ℤ → List ℤ → List ℤ → Job
 job h low high q table lags =
     record {
       horizon = h;
       reservoir = record { min-level = low; max-level = high; initial = q };
-      events = length table / 4;
+      window-table = table;
       lag-table = lags;
     }
 
+abbrev pub events : Job → ℕ
+events j = length (j .window-table) / 4
+
+-- The windows sent in.
+abbrev pub sent : Job → Windows
+sent j = windows (j .window-table)
+
 -- The lag table: 3 words a lag, a, b, d: "t(a) − t(b) ≤ d".
+abbrev pub lag-word : List ℤ → ℕ → ℕ → ℤ
+lag-word ws g i = getD ws (3 * g + i) (pos 0)
+
 abbrev pub lags : Job → ℕ
 lags j = length (j .lag-table) / 3
 
-abbrev pub lag-word : Job → ℕ → ℕ → ℤ
-lag-word j g i = getD (j .lag-table) (3 * g + i) (pos 0)
-
 abbrev pub lag-a : Job → ℕ → ℕ
-lag-a j g = natAbs (lag-word j g 0)
+lag-a j g = natAbs (lag-word (j .lag-table) g 0)
 
 abbrev pub lag-b : Job → ℕ → ℕ
-lag-b j g = natAbs (lag-word j g 1)
+lag-b j g = natAbs (lag-word (j .lag-table) g 1)
 
 abbrev pub lag-d : Job → ℕ → ℤ
-lag-d j g = lag-word j g 2
+lag-d j g = lag-word (j .lag-table) g 2
 
 -- ---- schedules
 
@@ -112,18 +125,24 @@ pub record Inside (n : ℕ) (W x : Windows) : Type 0 where
 
 -- The stock at the moment m: Q + (sum of h(y) with t(y) ≤ m).
 unfoldable pub stock : Job → Schedule → ℤ → ℤ
-stock j p m = j .reservoir .initial +ℤ sum (j .events) (λ y. cond (leZ (p .time y) m) (p .height y) (pos 0))
+stock j p m = j .reservoir .initial +ℤ sum (events j) (λ y. cond (leZ (p .time y) m) (p .height y) (pos 0))
 
 -- Legal in the windows W: inside them, all lags hold, and both limits at every whole moment, earlier than the first event too.
 pub record Legal (j : Job) (W : Windows) (p : Schedule) : Type 0 where
-  pub within : Inside (j .events) W (value p)
+  pub within : Inside (events j) W (value p)
   pub lagged : (g : ℕ) → g < lags j → (p .time (lag-a j g) -ℤ p .time (lag-b j g)) ≤ℤ lag-d j g
   pub above-min : (m : ℤ) → j .reservoir .min-level ≤ℤ stock j p m
   pub below-max : (m : ℤ) → stock j p m ≤ℤ j .reservoir .max-level
 
--- The widest windows: 0..H; 1..9,999, −9,999..−1 or 0 for a delivery, a pull or a neutral event of the windows W.
-abbrev pub widest : ℤ → Windows → Windows
-widest h W y t-min = pos 0
-widest h W y t-max = h
-widest h W y h-min = cond (produces (W y h-max)) (pos 1) (cond (consumes (W y h-max)) (negsuc 9998) (pos 0))
-widest h W y h-max = cond (produces (W y h-max)) (pos 9999) (cond (consumes (W y h-max)) (negsuc 0) (pos 0))
+-- The widest windows: 0..H; 1..9,999, −9,999..−1 or 0 for a delivery, a pull or a neutral event, of which h is an amount.
+abbrev pub widest-h-min : ℤ → ℤ
+widest-h-min h = cond (produces h) (pos 1) (cond (consumes h) (negsuc 9998) (pos 0))
+
+abbrev pub widest-h-max : ℤ → ℤ
+widest-h-max h = cond (produces h) (pos 9999) (cond (consumes h) (negsuc 0) (pos 0))
+
+abbrev pub widest : Job → Windows
+widest j y t-min = pos 0
+widest j y t-max = j .horizon
+widest j y h-min = widest-h-min (sent j y h-max)
+widest j y h-max = widest-h-max (sent j y h-max)

@@ -1,9 +1,16 @@
 pub mod Job
+pub mod View
 pub mod Levels
 pub mod Rules
 pub mod Facts
 pub mod Slips
+pub mod Agenda
 pub mod Rounds
 pub mod Questions
 pub mod Planner
 pub mod Reader
+pub mod Text
+pub mod Print
+pub mod Program
+pub mod Standing
+pub mod Demand

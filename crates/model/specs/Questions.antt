@@ -1,13 +1,13 @@
 -- Document 01, "Questions put to a call": 1 to 11, which planner and reader both ask, each with its number and place.
 use mathlib.Core.Bool.{Bool, true, false, not, cond, _&&_, _||_}
 use mathlib.Core.List.{List}
-use Prim.Native.Nat.{ℕ, zero, suc, _+_, _%_}
+use Prim.Native.Nat.{ℕ, zero, suc, _+_, _/_, _%_}
 use lib.Dec.{eqb, leb}
 use lib.IntN.{ℤ, pos, negsuc}
 use lib.ListN.{length}
 use lib.Signed.{leZ, ltZ}
 use Rattle.integers.specs.Range.{eqZ}
-use Rattle.model.specs.Job.{t-min, t-max, h-min, h-max, Windows, windows, Job, lags, lag-word}
+use Rattle.model.specs.Job.{t-min, t-max, h-min, h-max, Windows, windows, Reservoir, Job, events, lag-word}
 
 -- A "no" ends the call with the question's number and the place of the first event, lag or slip concerned.
 pub data Check : Type 0 where
@@ -32,9 +32,26 @@ each q ok i (suc k) = cond (ok i) (each q ok (i + 1) k) (refuse q i)
 abbrev pub in-range : ℤ → ℤ → ℤ → Bool
 in-range low high x = leZ low x && leZ x high
 
--- A word that is the number of an event, of n.
-abbrev pub is-event : ℕ → ℤ → Bool
-is-event n w = leZ (pos 0) w && ltZ w (pos n)
+-- ---- each question's test
+
+-- 1. H is in 0..20,000.
+abbrev pub horizon-right : ℤ → Bool
+horizon-right h = in-range (pos 0) (pos 20000) h
+
+-- 2. Lmin, Lmax, Q are each in −1,000,000..1,000,000.
+abbrev pub limit-in-range : ℤ → Bool
+limit-in-range x = in-range (negsuc 999999) (pos 1000000) x
+
+abbrev pub limits-right : Reservoir → Bool
+limits-right c = limit-in-range (c .min-level) && limit-in-range (c .max-level) && limit-in-range (c .initial)
+
+-- 3. Lmin ≤ Q ≤ Lmax.
+abbrev pub stock-right : Reservoir → Bool
+stock-right c = leZ (c .min-level) (c .initial) && leZ (c .initial) (c .max-level)
+
+-- 4. The window table is whole events, 0 to 64.
+abbrev pub events-whole : List ℤ → Bool
+events-whole table = eqb (length table % 4) 0 && leb (length table) 256
 
 -- 5. 0 ≤ t_min ≤ t_max ≤ H.
 abbrev pub times-right : ℤ → Windows → ℕ → Bool
@@ -48,30 +65,58 @@ heights-right W y =
     || (leZ (pos 0) (W y h-min) && leZ (W y h-max) (pos 0)))
     && leZ (W y h-min) (W y h-max)
 
--- 8. a and b are events. 9. They differ. 10. d is in −20,000..20,000.
-abbrev pub lag-events : Job → ℕ → Bool
-lag-events j g = is-event (j .events) (lag-word j g 0) && is-event (j .events) (lag-word j g 1)
+-- 7. The lag table is whole lags, 0 to 256.
+abbrev pub lags-whole : List ℤ → Bool
+lags-whole ws = eqb (length ws % 3) 0 && leb (length ws) 768
 
-abbrev pub lag-differs : Job → ℕ → Bool
-lag-differs j g = not (eqZ (lag-word j g 0) (lag-word j g 1))
+-- A word that is the number of an event, of n.
+abbrev pub is-event : ℕ → ℤ → Bool
+is-event n w = leZ (pos 0) w && ltZ w (pos n)
 
-abbrev pub lag-in-range : Job → ℕ → Bool
-lag-in-range j g = in-range (negsuc 19999) (pos 20000) (lag-word j g 2)
+-- 8. a and b are events, of n.
+abbrev pub lag-events : ℕ → List ℤ → ℕ → Bool
+lag-events n ws g = is-event n (lag-word ws g 0) && is-event n (lag-word ws g 1)
 
-abbrev pub limit-in-range : ℤ → Bool
-limit-in-range x = in-range (negsuc 999999) (pos 1000000) x
+-- 9. a and b differ.
+abbrev pub lag-differs : List ℤ → ℕ → Bool
+lag-differs ws g = not (eqZ (lag-word ws g 0) (lag-word ws g 1))
 
--- Questions 1 to 11 of a job, its window table and the length of its slip buffer, in order; each goes to all events or lags before the next.
-unfoldable pub questions : Job → List ℤ → ℕ → Check
-questions j table room =
-    ask 1 (in-range (pos 0) (pos 20000) (j .horizon))
-    then ask 2 (limit-in-range (j .reservoir .min-level) && limit-in-range (j .reservoir .max-level) && limit-in-range (j .reservoir .initial))
-    then ask 3 (leZ (j .reservoir .min-level) (j .reservoir .initial) && leZ (j .reservoir .initial) (j .reservoir .max-level))
-    then ask 4 (eqb (length table % 4) 0 && leb (length table) 256)
-    then each 5 (times-right (j .horizon) (windows table)) 0 (j .events)
-    then each 6 (heights-right (windows table)) 0 (j .events)
-    then ask 7 (eqb (length (j .lag-table) % 3) 0 && leb (length (j .lag-table)) 768)
-    then each 8 (lag-events j) 0 (lags j)
-    then each 9 (lag-differs j) 0 (lags j)
-    then each 10 (lag-in-range j) 0 (lags j)
-    then ask 11 (leb 3 room && leb room 1000000)
+-- 10. d is in −20,000..20,000.
+abbrev pub lag-in-range : List ℤ → ℕ → Bool
+lag-in-range ws g = in-range (negsuc 19999) (pos 20000) (lag-word ws g 2)
+
+-- 11. The slip buffer has 3 to 1,000,000 words.
+abbrev pub room-right : ℕ → Bool
+room-right room = leb 3 room && leb room 1000000
+
+-- ---- the questions in order; each goes to all events or lags before the next
+
+-- 1 to 3, of the horizon and the cage.
+abbrev pub cage-questions : ℤ → Reservoir → Check
+cage-questions h c = ask 1 (horizon-right h) then ask 2 (limits-right c) then ask 3 (stock-right c)
+
+-- 4 to 6, of the window table, with the horizon.
+abbrev pub window-questions : ℤ → List ℤ → Check
+window-questions h table =
+    ask 4 (events-whole table)
+    then each 5 (times-right h (windows table)) 0 (length table / 4)
+    then each 6 (heights-right (windows table)) 0 (length table / 4)
+
+-- 7 to 10, of the lag table of n events.
+abbrev pub lag-questions : ℕ → List ℤ → Check
+lag-questions n ws =
+    ask 7 (lags-whole ws)
+    then each 8 (lag-events n ws) 0 (length ws / 3)
+    then each 9 (lag-differs ws) 0 (length ws / 3)
+    then each 10 (lag-in-range ws) 0 (length ws / 3)
+
+-- The job's own questions.
+unfoldable pub own-questions : Job → Check
+own-questions j =
+    cage-questions (j .horizon) (j .reservoir)
+    then window-questions (j .horizon) (j .window-table)
+    then lag-questions (events j) (j .lag-table)
+
+-- Questions 1 to 11: the job's own, then of the length of its slip buffer.
+unfoldable pub questions : Job → ℕ → Check
+questions j room = own-questions j then ask 11 (room-right room)

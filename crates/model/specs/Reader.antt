@@ -4,50 +4,26 @@ use mathlib.Core.List.{List, [], _∷_}
 use Prim.Native.Nat.{ℕ, zero, suc, _+_, _*_, _-_}
 use lib.Dec.{eqb, leb}
 use lib.IntN.{ℤ, pos, natAbs}
-use lib.ListN.{getD, length, set}
+use lib.ListN.{length, set}
 use lib.Signed.{leZ}
 use Rattle.integers.specs.Range.{eqZ}
-use Rattle.model.specs.Job.{End, t-min, t-max, h-min, h-max, meets, word, slot, Windows, windows, widest, Job, job, lags, lag-a, lag-b}
-use Rattle.model.specs.Rules.{Rule, lag-upper, lag-lower, reservoir, level, time, height, rule, Finding, nothing, clash, bound, finding, own-end, Effect, idle, narrows, fails, effect, failed}
-use Rattle.model.specs.Slips.{Premise, Explanation, number, slip-length}
+use Rattle.model.specs.Job.{End, meets, word, slot, Windows, windows, widest, Job, events}
+use Rattle.model.specs.Rules.{Rule, lag-upper, lag-lower, reservoir, level, time, height, Finding, nothing, clash, bound, finding, own-end, effect, failed, subjects, is-narrowing, target-fits, known-rule}
+use Rattle.model.specs.Slips.{Premise, Explanation, number, slip-length, at, slip-at, premise-end, premise-event, rule-of, target-of, premise-count, subject-of}
 use Rattle.model.specs.Rounds.{Verdict, conflict, still-open}
-use Rattle.model.specs.Questions.{Check, pass, refuse, _then_, ask, is-event, in-range, questions}
+use Rattle.model.specs.Questions.{Check, pass, refuse, ask, is-event, in-range, questions, _then_}
 use Rattle.model.specs.Planner.{refused, done, Outcome}
 
-abbrev pub at : List ℤ → ℕ → ℤ
-at list i = getD list i (pos 0)
-
 -- ---- 13. A slip read
-
--- m facts from word i on.
-unfoldable pub premises-at : List ℤ → ℕ → ℕ → List Premise
-premises-at list i zero = []
-premises-at list i (suc m) =
-    record { event = at list i; kind = at list (i + 1); value = at list (i + 2) } ∷ premises-at list (i + 3) m
-
--- The number of facts of the slip at word i, and its length.
-abbrev pub premise-count : List ℤ → ℕ → ℕ
-premise-count list i = natAbs (at list (i + 5))
 
 -- 13. Whole before the trailer (at stop), rule 1..14, m in 0..256, length right?
 unfoldable pub whole : List ℤ → ℕ → ℕ → Bool
 whole list stop i =
     leb (i + 7) stop
-    && in-range (pos 1) (pos 14) (at list i)
+    && known-rule (at list i)
     && in-range (pos 0) (pos 256) (at list (i + 5))
     && leb (i + slip-length (premise-count list i)) stop
     && eqZ (at list (i + (6 + 3 * premise-count list i))) (pos (slip-length (premise-count list i)))
-
-unfoldable pub slip-at : List ℤ → ℕ → Explanation
-slip-at list i =
-    record {
-      rule = at list i;
-      subject = at list (i + 1);
-      target = at list (i + 2);
-      kind = at list (i + 3);
-      value = at list (i + 4);
-      premises = premises-at list (i + 6) (premise-count list i);
-    }
 
 -- A slip read comes apart as a slip and the place after it, or as a refusal.
 pub data Reading : Type 0 where
@@ -59,35 +35,6 @@ reading list stop i =
     cond (whole list stop i) (slip (slip-at list i) (i + slip-length (premise-count list i))) cut
 
 -- ---- 14. What it names
-
-abbrev pub end : ℕ → End
-end zero = t-min
-end (suc zero) = t-min
-end (suc (suc zero)) = t-max
-end (suc (suc (suc zero))) = h-min
-end (suc (suc (suc (suc n)))) = h-max
-
-abbrev pub rule-of : Explanation → Rule
-rule-of x = rule (natAbs (x .rule))
-
-abbrev pub subject-of : Explanation → ℕ
-subject-of x = natAbs (x .subject)
-
-abbrev pub target-of : Explanation → ℕ
-target-of x = natAbs (x .target)
-
-abbrev pub subjects : Rule → Job → ℕ
-subjects lag-upper j = lags j
-subjects lag-lower j = lags j
-subjects (reservoir m b f) j = j .events
-
--- The target fits the rule: a, b, or e; any event in 5, 8, 11, 14.
-abbrev pub target-fits : Rule → Job → ℕ → ℕ → Bool
-target-fits lag-upper j g y = eqb y (lag-a j g)
-target-fits lag-lower j g y = eqb y (lag-b j g)
-target-fits (reservoir m b level) j e y = eqb y e
-target-fits (reservoir m b time) j e y = eqb y e
-target-fits (reservoir m b height) j e y = true
 
 -- A level rule concludes conflict alone.
 abbrev pub has-bound : Rule → Bool
@@ -109,18 +56,12 @@ premises-fit n (f ∷ fs) = is-event n (f .event) && in-range (pos 1) (pos 4) (f
 unfoldable pub names : Job → Explanation → Bool
 names j x =
     is-event (subjects (rule-of x) j) (x .subject)
-    && is-event (j .events) (x .target)
-    && premises-fit (j .events) (x .premises)
+    && is-event (events j) (x .target)
+    && premises-fit (events j) (x .premises)
     && target-fits (rule-of x) j (subject-of x) (target-of x)
     && kind-fits (rule-of x) (x .kind) (x .value)
 
 -- ---- 15 and 16. Its facts and its rule
-
-abbrev pub premise-event : Premise → ℕ
-premise-event f = natAbs (f .event)
-
-abbrev pub premise-end : Premise → End
-premise-end f = end (natAbs (f .kind))
 
 -- 15. Every fact is true of the windows as they stand.
 unfoldable pub all-true : Windows → List Premise → Bool
@@ -157,11 +98,6 @@ gives j X x =
     (as-strict (own-end (rule-of x)) (x .value) f)
 
 -- ---- 17 and 18. What it does
-
-abbrev pub is-narrowing : Effect → Bool
-is-narrowing idle = false
-is-narrowing (narrows v) = true
-is-narrowing fails = false
 
 -- 17, of kinds 1 to 4: a bound narrows the standing window without emptying it. 18, of kind 0: a conflict is the last slip counted (none is left).
 abbrev pub fits-there : Windows → Explanation → ℕ → Check
@@ -213,34 +149,34 @@ abbrev pub counted : List ℤ → ℤ
 counted list = at list (stop-of list)
 
 -- 12. The last word is 4207 and the count not negative.
-abbrev pub marked : List ℤ → Check
-marked list = ask 12 (eqZ (at list (stop-of list + 2)) (pos 4207) && leZ (pos 0) (counted list))
+abbrev pub marked : List ℤ → Bool
+marked list = eqZ (at list (stop-of list + 2)) (pos 4207) && leZ (pos 0) (counted list)
 
 -- 19. The slips end at the trailer, its second word where the last begins (0 if none).
-abbrev pub ends-right : List ℤ → Read → Check
-ends-right list r = ask 19 (eqb (r .after) (stop-of list) && eqZ (at list (stop-of list + 1)) (pos (r .last)))
+abbrev pub ends-right : List ℤ → ℕ → ℕ → Bool
+ends-right list after last = eqb after (stop-of list) && eqZ (at list (stop-of list + 1)) (pos last)
 
 -- All slips read.
-unfoldable pub read-all : Job → List ℤ → List ℤ → Read
-read-all j table list =
-    read-from j (widest (j .horizon) (windows table)) list (stop-of list) (natAbs (counted list)) 0 0 0 false table
+unfoldable pub read-all : Job → List ℤ → Read
+read-all j list =
+    read-from j (widest j) list (stop-of list) (natAbs (counted list)) 0 0 0 false (j .window-table)
 
 -- Conflict exactly when the last slip counted has kind 0, else open.
 abbrev pub accepted : Bool → Verdict
 accepted true = conflict
 accepted false = still-open
 
-abbrev pub judged : List ℤ → List ℤ → Read → Outcome
-judged table list r =
-    elim (r .check then ends-right list r) [
-      | refuse q i ↦ record { reply = refused q i; table = table; buffer = list }
+abbrev pub judged : Job → List ℤ → Read → Outcome
+judged j list r =
+    elim (r .check then ask 19 (ends-right list (r .after) (r .last))) [
+      | refuse q i ↦ record { reply = refused q i; table = j .window-table; buffer = list }
       | pass ↦ record { reply = done (accepted (r .conflicting)) 0 0 0; table = r .table; buffer = list }
     ]
 
--- H, Lmin, Lmax, Q, window table, lag table, the list. Questions 1 to 11 (its list is the buffer), 12, then 13 to 18 of each slip in turn, then 19. A refusal changes no lent word.
-unfoldable pub check : ℤ → ℤ → ℤ → ℤ → List ℤ → List ℤ → List ℤ → Outcome
-check h low high q table lags list =
-    elim (questions (job h low high q table lags) table (length list) then marked list) [
-      | refuse number place ↦ record { reply = refused number place; table = table; buffer = list }
-      | pass ↦ judged table list (read-all (job h low high q table lags) table list)
+-- The job, the list. Questions 1 to 11 (its list is the buffer), 12, then 13 to 18 of each slip in turn, then 19. A refusal changes no lent word.
+unfoldable pub check : Job → List ℤ → Outcome
+check j list =
+    elim (questions j (length list) then ask 12 (marked list)) [
+      | refuse number place ↦ record { reply = refused number place; table = j .window-table; buffer = list }
+      | pass ↦ judged j list (read-all j list)
     ]

@@ -1,12 +1,14 @@
--- Document 01, "The fourteen rules", its second half: what each rule gives on windows, and what that does to the target's window.
+-- Document 01, "The fourteen rules": what each rule gives on windows, and what that does to the target's window.
 use mathlib.Core.Bool.{Bool, true, false, cond, _&&_, _||_}
 use mathlib.Core.List.{List, [], _∷_}
-use Prim.Native.Nat.{ℕ, zero, suc, _+_, _-_}
+use Prim.Native.Nat.{ℕ, zero, suc, _-_}
+use lib.Dec.{eqb}
 use lib.IntN.{ℤ, pos, _+ℤ_, _-ℤ_}
 use lib.ListN.{getD}
 use lib.Signed.{leZ, ltZ}
-use Rattle.model.specs.Job.{End, t-min, t-max, h-min, h-max, opposite, meets, Windows, Reservoir, Job, produces, consumes, lag-a, lag-b, lag-d}
-use Rattle.model.specs.Levels.{Switch, Place, sure, possible, never, place, most-in, most, sure-part, side-value, side-end, side, side-reservoir}
+use Rattle.model.specs.Job.{End, t-min, t-max, h-min, h-max, opposite, meets, Windows, produces, consumes, Job, events, lags, lag-a, lag-b, lag-d}
+use Rattle.model.specs.View.{side-value, side-end, View, view, seen}
+use Rattle.model.specs.Levels.{Place, sure, possible, never, e-min, stands, most-in, most, sure-part}
 
 -- What a rule gives: nothing, a conflict of the levels, or a bound on its target.
 pub data Finding : Type 0 where
@@ -21,8 +23,8 @@ given-if false f = nothing
 -- ---- rules 3 to 5 ("before") and 9 to 11 ("by")
 
 -- Rules 3 and 9: most before (by) e < Lmin is a conflict.
-abbrev pub level-rule : Switch → ℕ → Reservoir → Windows → ℕ → Finding
-level-rule s n c W e = given-if (ltZ (most s n c W e) (c .min-level)) clash
+abbrev pub level-rule : View → Windows → Finding
+level-rule E W = given-if (ltZ (most E W) (E .limit)) clash
 
 -- The minute of e from which y counts: t_min(y) + 1 before e, t_min(y) by e. This is the 1 of rule 4.
 abbrev pub counts-from : Bool → ℤ → ℤ
@@ -43,20 +45,20 @@ possible-producer possible h = produces h
 possible-producer never h = false
 
 -- Lmin is reached at the delivery y, which is possibly, not surely, before (by) e: with e no later than y counts from, the level counts the sure part and just the deliveries up to y's t_min.
-abbrev pub reached-at : Switch → ℕ → Reservoir → Windows → ℕ → ℕ → Bool
-reached-at s n c W e y =
-    possible-producer (place s W e (W e t-min) (W e t-max) y) (W y h-max)
-    && leZ (c .min-level) (most-in s n c W e (W e t-min) (counts-from (s y) (W y t-min)))
+abbrev pub reached-at : View → Windows → ℕ → Bool
+reached-at E W y =
+    possible-producer (stands E W y) (W y h-max)
+    && leZ (E .limit) (most-in E W (e-min E W) (counts-from (E .before y) (W y t-min)))
 
 -- The earliest such y among the first k events. Deliveries of one t_min are added together: the one at which the sum by rising t_min first reaches Lmin, whatever the order of ties, has this t_min.
-unfoldable pub earliest : Switch → ℕ → Reservoir → Windows → ℕ → ℕ → Finding
-earliest s n c W e zero = nothing
-earliest s n c W e (suc y) =
-    earlier (earliest s n c W e y) (given-if (reached-at s n c W e y) (bound (counts-from (s y) (W y t-min))))
+unfoldable pub earliest : View → Windows → ℕ → Finding
+earliest E W zero = nothing
+earliest E W (suc y) =
+    earlier (earliest E W y) (given-if (reached-at E W y) (bound (counts-from (E .before y) (W y t-min))))
 
 -- Rules 4 and 10: if the surely-before (by) part with Q is below Lmin, add deliveries possibly, not surely, before (by), by rising t_min, until Lmin is reached at y; then t(e) ≥ t_min(y) + 1 (without the 1). Never reached: nothing.
-abbrev pub time-rule : Switch → ℕ → Reservoir → Windows → ℕ → Finding
-time-rule s n c W e = given-if (ltZ (sure-part s n c W e) (c .min-level)) (earliest s n c W e n)
+abbrev pub time-rule : View → Windows → Finding
+time-rule E W = given-if (ltZ (sure-part E W) (E .limit)) (earliest E W (E .events))
 
 -- Rules 5 and 11: target y, a pull surely before (by) or a delivery possibly before (by).
 abbrev pub targeted : Place → ℤ → Bool
@@ -65,11 +67,11 @@ targeted possible h = produces h
 targeted never h = false
 
 -- h(y) ≥ Lmin − (most before (by) e − h_max(y)).
-abbrev pub height-rule : Switch → ℕ → Reservoir → Windows → ℕ → ℕ → Finding
-height-rule s n c W e y =
+abbrev pub height-rule : View → Windows → ℕ → Finding
+height-rule E W y =
     given-if
-    (targeted (place s W e (W e t-min) (W e t-max) y) (W y h-max))
-    (bound (c .min-level -ℤ (most s n c W e -ℤ W y h-max)))
+    (targeted (stands E W y) (W y h-max))
+    (bound (E .limit -ℤ (most E W -ℤ W y h-max)))
 
 -- ---- the rules by number
 
@@ -81,9 +83,6 @@ pub data Family : Type 0 where
 pub data Rule : Type 0 where
   lag-upper lag-lower : Rule
   reservoir : Bool → Bool → Family → Rule
-
-abbrev pub switch : Bool → Switch
-switch b y = b
 
 abbrev pub rules : List Rule
 rules =
@@ -104,13 +103,16 @@ rules =
     ∷ []
 
 -- Rule r of 1..14.
+abbrev pub known-rule : ℤ → Bool
+known-rule r = leZ (pos 1) r && leZ r (pos 14)
+
 abbrev pub rule : ℕ → Rule
 rule r = getD rules (r - 1) lag-upper
 
-abbrev pub family-rule : Family → Switch → ℕ → Reservoir → Windows → ℕ → ℕ → Finding
-family-rule level s n c W e y = level-rule s n c W e
-family-rule time s n c W e y = time-rule s n c W e
-family-rule height s n c W e y = height-rule s n c W e y
+abbrev pub family-rule : Family → View → Windows → ℕ → Finding
+family-rule level E W y = level-rule E W
+family-rule time E W y = time-rule E W
+family-rule height E W y = height-rule E W y
 
 -- The end a family's bound is about; the level's has none, and no bound.
 abbrev pub family-end : Family → End
@@ -130,13 +132,27 @@ unfoldable pub finding : Rule → Job → Windows → ℕ → ℕ → Finding
 finding lag-upper j W g y = bound (W (lag-b j g) t-max +ℤ lag-d j g)
 finding lag-lower j W g y = bound (W (lag-a j g) t-min -ℤ lag-d j g)
 finding (reservoir m b f) j W e y =
-    side-finding m (family-end f) (family-rule f (switch b) (j .events) (side-reservoir m (j .reservoir)) (side m W) e y)
+    side-finding m (family-end f) (family-rule f (view j m b e) (seen j m e W) y)
 
 -- The end a rule's bound is about.
 abbrev pub own-end : Rule → End
 own-end lag-upper = t-max
 own-end lag-lower = t-min
 own-end (reservoir m b f) = side-end m (family-end f)
+
+-- The subjects that a rule has, from 0: lags in rules 1 and 2, else events.
+abbrev pub subjects : Rule → Job → ℕ
+subjects lag-upper j = lags j
+subjects lag-lower j = lags j
+subjects (reservoir m b f) j = events j
+
+-- The target fits the rule: a, b, or e; any event in 5, 8, 11, 14.
+abbrev pub target-fits : Rule → Job → ℕ → ℕ → Bool
+target-fits lag-upper j g y = eqb y (lag-a j g)
+target-fits lag-lower j g y = eqb y (lag-b j g)
+target-fits (reservoir m b level) j e y = eqb y e
+target-fits (reservoir m b time) j e y = eqb y e
+target-fits (reservoir m b height) j e y = true
 
 -- ---- what a finding does
 
@@ -157,3 +173,8 @@ abbrev pub failed : Effect → Bool
 failed idle = false
 failed (narrows v) = false
 failed fails = true
+
+abbrev pub is-narrowing : Effect → Bool
+is-narrowing idle = false
+is-narrowing (narrows v) = true
+is-narrowing fails = false

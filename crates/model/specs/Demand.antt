@@ -1,6 +1,5 @@
 -- Demand 3 in one piece, to be read without any proof: what the reader's acceptance means, whoever wrote the list, and that the reader accepts what the planner writes.
--- Read specs/ first; of proofs/ only two definitions are used, both in Words: `log-words` (the slips' words in turn) and `last-begins` (where the last one begins). The proof is in DemandProof.
--- Assumes nothing.
+-- Read the rest of specs/ first. The proof is in proofs/DemandProof.
 use mathlib.Core.Path.{_≡_}
 use mathlib.Core.List.{List, [], _∷_, _++_}
 use Prim.Native.Nat.{ℕ, zero, suc, _+_, _≤_}
@@ -8,13 +7,13 @@ use lib.Dec.{T}
 use lib.IntN.{ℤ, pos, negsuc, natAbs}
 use lib.ListN.{length, take}
 use lib.Signed.{_≤ℤ_}
-use Rattle.model.specs.Job.{windows, widest, Job, job, Schedule, value, Inside, Legal}
-use Rattle.model.specs.Slips.{Premise, Explanation, slip-length, trailer}
+use Rattle.model.specs.Job.{windows, widest, Job, Schedule, value, Inside, Legal, events, sent}
+use Rattle.model.specs.Slips.{Premise, Explanation, slip-length, log-words, last-begins, trailer, premise-count, slip-at}
+use Rattle.model.specs.Agenda.{Each}
 use Rattle.model.specs.Rounds.{Verdict, settled, conflict, stopped, still-open}
 use Rattle.model.specs.Questions.{pass, questions}
 use Rattle.model.specs.Planner.{refused, done, Outcome, plan}
-use Rattle.model.specs.Reader.{premise-count, slip-at, counted, names, is-conflict, accepted, check}
-use Rattle.model.proofs.Words.{log-words, last-begins}
+use Rattle.model.specs.Reader.{counted, names, is-conflict, accepted, check}
 
 -- ---- what a plan has
 
@@ -27,11 +26,6 @@ Has p y (pos (suc (suc (suc zero)))) v = v ≤ℤ p .height y
 Has p y (pos (suc (suc (suc (suc zero))))) v = p .height y ≤ℤ v
 Has p y (pos (suc (suc (suc (suc (suc n)))))) v = ⊥
 Has p y (negsuc n) v = ⊥
-
--- So it is for every one of a list.
-abbrev pub Each : {A : Type 0} → (A → Type 0) → List A → Type 0
-Each P [] = Unit {0}
-Each P (a ∷ rest) = P a × Each P rest
 
 abbrev pub HasPremises : Schedule → Explanation → Type 0
 HasPremises p x = Each (λ (f : Premise). Has p (natAbs (f .event)) (f .kind) (f .value)) (x .premises)
@@ -69,33 +63,30 @@ echoed still-open = still-open
 
 -- ---- the demand
 
--- H, Lmin, Lmax, Q, the window table sent in, the lag table.
-module _ (h low high q : ℤ) (table lag-words : List ℤ) where
+-- The job: every word of a call but the slip buffer.
+module _ (j : Job) where
   abbrev pub planner : List ℤ → Outcome
-  planner buffer = plan h low high q table lag-words buffer
+  planner buffer = plan j buffer
 
   abbrev pub reader : List ℤ → Outcome
-  reader list = check h low high q table lag-words list
-
-  abbrev pub called : Job
-  called = job h low high q table lag-words
+  reader list = check j list
 
   -- A legal plan of the job: in the windows sent in, with all lags and both limits kept at every moment.
   abbrev pub LegalPlan : Schedule → Type 0
-  LegalPlan p = Legal called (windows table) p
+  LegalPlan p = Legal j (sent j) p
 
   -- A legal plan of the same job with the windows opened: 0..H; 1..9,999, −9,999..−1 or 0 for a delivery, a pull or a neutral event.
   abbrev pub OpenPlan : Schedule → Type 0
-  OpenPlan p = Legal called (widest h (windows table)) p
+  OpenPlan p = Legal j (widest j) p
 
   -- A list that the reader accepts, saying v.
   pub record Acceptance (list : List ℤ) (v : Verdict) : Type 0 where
     -- It is its slips and their trailer, word for word.
     pub words : list ≡ listed (slips-of list)
     -- Each slip's subject, target and fact events exist, its fact kinds are 1 to 4, its kind is its rule's own or 0 with value 0.
-    pub named : Each (λ (x : Explanation). T (names called x)) (slips-of list)
+    pub named : Each (λ (x : Explanation). T (names j x)) (slips-of list)
     -- Every legal plan lies inside the windows that the reader leaves.
-    pub keeps : (p : Schedule) → LegalPlan p → Inside (called .events) (windows (reader list .table)) (value p)
+    pub keeps : (p : Schedule) → LegalPlan p → Inside (events j) (windows (reader list .table)) (value p)
     -- If the list has a conflict slip, there is no legal plan.
     pub none : Each (λ (x : Explanation). x .kind ≡ pos 0 → (p : Schedule) → LegalPlan p → ⊥) (slips-of list)
     -- The reader says conflict exactly when the last slip counted is one; and then there is no legal plan.
@@ -114,7 +105,7 @@ module _ (h low high q : ℤ) (table lag-words : List ℤ) where
 
   -- A refusal changes no lent word.
   pub record Untouched (buffer : List ℤ) (o : Outcome) : Type 0 where
-    pub same-table : o .table ≡ table
+    pub same-table : o .table ≡ j .window-table
     pub same-buffer : o .buffer ≡ buffer
 
   -- Demand 3, with demand 1's word on refused calls. A reader that accepts everything, or weighs a fact or a rule wrongly, breaks `sound`; one that refuses everything, or loses a narrowing, breaks `complete`; and so does a planner
@@ -125,6 +116,6 @@ module _ (h low high q : ℤ) (table lag-words : List ℤ) where
     -- For every job that the planner takes, whatever slip room it has and whether it answers settled, conflict or stopped.
     pub complete : (buffer : List ℤ) (v : Verdict) (slips rounds len : ℕ) → planner buffer .reply ≡ done v slips rounds len → Replay buffer v len
     -- It takes every job that questions 1 to 11 let pass.
-    pub takes : (buffer : List ℤ) → questions called table (length buffer) ≡ pass → (v : Verdict) × (slips : ℕ) × (rounds : ℕ) × (len : ℕ) × (planner buffer .reply ≡ done v slips rounds len)
+    pub takes : (buffer : List ℤ) → questions j (length buffer) ≡ pass → (v : Verdict) × (slips : ℕ) × (rounds : ℕ) × (len : ℕ) × (planner buffer .reply ≡ done v slips rounds len)
     pub reader-refuses : (list : List ℤ) (number place : ℕ) → reader list .reply ≡ refused number place → Untouched list (reader list)
     pub planner-refuses : (buffer : List ℤ) (number place : ℕ) → planner buffer .reply ≡ refused number place → Untouched buffer (planner buffer)

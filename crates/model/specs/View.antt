@@ -1,0 +1,58 @@
+-- Document 01, "The fourteen rules": what a rule at an event sees. The mirror, before and by, the limit and the opening stock are all said here; levels, rules and facts read nothing else.
+use mathlib.Core.Bool.{Bool, true, false}
+use Prim.Native.Nat.{ℕ}
+use lib.IntN.{ℤ, negℤ}
+use Rattle.model.specs.Job.{End, t-min, t-max, h-min, h-max, Windows, Reservoir, Job, events}
+
+-- ---- the mirror
+
+-- Negate all amounts and Q, exchange and negate the limits. A side is the job as it stands (false) or its mirror (true).
+abbrev pub side-value : Bool → End → ℤ → ℤ
+side-value false k v = v
+side-value true t-min v = v
+side-value true t-max v = v
+side-value true h-min v = negℤ v
+side-value true h-max v = negℤ v
+
+abbrev pub side-end : Bool → End → End
+side-end false k = k
+side-end true t-min = t-min
+side-end true t-max = t-max
+side-end true h-min = h-max
+side-end true h-max = h-min
+
+abbrev pub side : Bool → Windows → Windows
+side m W y k = side-value m k (W y (side-end m k))
+
+-- The limit that the level must reach: Lmin, in the mirror Lmax negated.
+abbrev pub side-limit : Bool → Reservoir → ℤ
+side-limit false c = c .min-level
+side-limit true c = negℤ (c .max-level)
+
+-- ---- the view
+
+-- How a rule counts at an event, its subject: the number of events, the limit, the opening stock, and of each event whether "before" (true) or "by" (false) is meant.
+pub record View : Type 0 where
+  pub subject : ℕ
+  pub events : ℕ
+  pub limit : ℤ
+  pub opening : ℤ
+  pub before : ℕ → Bool
+
+-- The view at e of a rule of side m that speaks of "before" (b true) or "by": of n events and a cage; in a job.
+abbrev pub view-of : ℕ → Reservoir → Bool → Bool → ℕ → View
+view-of n c m b e =
+    record {
+      subject = e;
+      events = n;
+      limit = side-limit m c;
+      opening = side-value m h-max (c .initial);
+      before = λ y. b;
+    }
+
+abbrev pub view : Job → Bool → Bool → ℕ → View
+view j m b e = view-of (events j) (j .reservoir) m b e
+
+-- The windows as a rule of side m at e sees them.
+abbrev pub seen : Job → Bool → ℕ → Windows → Windows
+seen j m e W = side m W
