@@ -1,21 +1,22 @@
 -- Tests joined by `&&` and `||` as the code's branches give them, and questions one after the other.
 -- Assumes nothing.
-use mathlib.Core.Path.{_≡_, refl, ap, _∙_}
+use mathlib.Core.Path.{_≡_, refl}
 use mathlib.Core.List.{List}
 use mathlib.Core.Bool.{Bool, true, false, _&&_, _||_}
 use Prim.Native.Nat.{ℕ, zero, suc, _+_, _-_, _/_, _%_, _≤_, _<_}
 use native.Mathlib.Omega.{arith}
 use lib.Dec.{eqb, leb}
-use lib.IntN.{ℤ, pos}
-use lib.Signed.{leZ}
+use lib.IntN.{ℤ}
 use lib.ListN.{length}
 use borrow.Author.Tests.{leb-true}
-use Rattle.model.specs.Job.{windows, job}
-use Rattle.questions.specs.Asked.{check-of, reservoir-questions, window-questions, lag-questions, room-question}
+use Rattle.model.specs.Job.{Job as Call}
+use Rattle.tables.specs.Job.{reservoir-of, Holds}
+use Rattle.tables.specs.declared.Job.{Job}
+use Rattle.questions.specs.Asked.{check-of}
 use Rattle.questions.specs.declared.Check.{Check as Answer}
 use Rattle.questions.specs.declared.Check.the-variants.{Pass, Refuse}
 use Rattle.questions.specs.declared.Refusal.{Refusal}
-use Rattle.model.specs.Questions.{Check, pass, refuse, _then_, ask, each, questions, in-range, limit-in-range, times-right, heights-right, lag-events, lag-differs, lag-in-range}
+use Rattle.model.specs.Questions.{Check, pass, refuse, _then_, ask, each, cage-questions, window-questions, lag-questions, own-questions}
 
 -- The second test counts where the first held, and not where it failed.
 pub and-yes : {x a : Bool} (b : Bool) → x ≡ a → x ≡ true → b ≡ (a && b)
@@ -79,42 +80,11 @@ then-pass p q e = rw (← p, q) e
 pub then-refuse : {x : Answer} {a : Check} {r : Refusal} (rest : Check) → check-of x ≡ a → x ≡ Refuse r → check-of x ≡ (a then rest)
 then-refuse rest p q = rw (← p, q)
 
-then-assoc : (a b c : Check) → ((a then b) then c) ≡ (a then b then c)
-then-assoc pass b c = refl
-then-assoc (refuse q i) b c = refl
-
-then-three : (a b c r : Check) → ((a then b then c) then r) ≡ (a then b then c then r)
-then-three pass b c r = then-assoc b c r
-then-three (refuse q i) b c r = refl
-
-then-four : (a b c d r : Check) → ((a then b then c then d) then r) ≡ (a then b then c then d then r)
-then-four pass b c d r = then-three b c d r
-then-four (refuse q i) b c d r = refl
-
-regroup : (a b c d e f g h i j k : Check) → ((a then b then c) then (d then e then f) then (g then h then i then j) then k) ≡ (a then b then c then d then e then f then g then h then i then j then k)
-regroup a b c d e f g h i j k =
-    then-three a b c ((d then e then f) then (g then h then i then j) then k)
-    ∙ ap (λ r. a then b then c then r) (then-three d e f ((g then h then i then j) then k) ∙ ap (λ r. d then e then f then r) (then-four g h i j k))
-
--- The questions are those to the reservoir, the window table, the lag table and the room.
-pub grouped : (h low high q : ℤ) (table lags : List ℤ) (room : ℕ) → (reservoir-questions h low high q then window-questions h table then lag-questions (length table / 4) lags then room-question room) ≡ questions (job h low high q table lags) table room
-unfolding questions
-grouped h low high q table lags room =
-    let j = job h low high q table lags in
-    let n = length table / 4 in
-    let m = length lags / 3 in
-    regroup
-    (ask 1 (in-range (pos 0) (pos 20000) h))
-    (ask 2 (limit-in-range low && limit-in-range high && limit-in-range q))
-    (ask 3 (leZ low q && leZ q high))
-    (ask 4 (eqb (length table % 4) 0 && leb (length table) 256))
-    (each 5 (times-right h (windows table)) 0 n)
-    (each 6 (heights-right (windows table)) 0 n)
-    (ask 7 (eqb (length lags % 3) 0 && leb (length lags) 768))
-    (each 8 (lag-events j) 0 m)
-    (each 9 (lag-differs j) 0 m)
-    (each 10 (lag-in-range j) 0 m)
-    (room-question room)
+-- The job's own questions, put to what the code holds of a call.
+pub own-asked : (k : Job) (table ws : List ℤ) (j : Call) → Holds k ws j → j .window-table ≡ table →
+    (cage-questions (k .horizon .0) (reservoir-of (k .reservoir)) then window-questions (k .horizon .0) table then lag-questions (length table / 4) ws) ≡ own-questions j
+unfolding own-questions
+own-asked k table ws j h t = rw (h .horizon-is, h .reservoir-is, h .lags-are, t)
 
 passed : (q : ℕ) (t : Bool) (rest : Check) → pass ≡ (ask q t then rest) → t ≡ true
 passed q true rest e = refl

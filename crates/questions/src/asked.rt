@@ -1,6 +1,9 @@
 // Questions 1 to 11, which planner and reader both put to a call, in order; words are only compared, so that any word is harmless.
 use crate::Check;
 use crate::Refusal;
+use tables::Height;
+use tables::Job;
+use tables::Reservoir;
 use tables::Time;
 ghost use mathlib.Core.Path.{_≡_};
 ghost use mathlib.Core.Bool.{not, _&&_, _||_};
@@ -9,9 +12,10 @@ ghost use lib.Dec.{eqb, leb};
 ghost use lib.IntN.{pos, negsuc};
 ghost use lib.Signed.{leZ, ltZ};
 ghost use Rattle.integers.specs.Range.{eqZ};
-ghost use Rattle.model.specs.Job.{windows, job};
-ghost use Rattle.model.specs.Questions.{each, refuse, questions, times-right, heights-right, lag-events, lag-differs, lag-in-range, limit-in-range};
-ghost use Rattle.questions.specs.Asked.{check-of, event-right, lag-right, lag-job, reservoir-questions, window-questions, lag-questions, room-question};
+ghost use Rattle.model.specs.Job.{windows, Job as Call};
+ghost use Rattle.model.specs.Questions.{ask, each, refuse, horizon-right, limit-in-range, limits-right, stock-right, times-right, heights-right, lag-events, lag-differs, lag-in-range, room-right, cage-questions, window-questions, lag-questions, own-questions, questions};
+ghost use Rattle.tables.specs.Job.{reservoir-of, Holds};
+ghost use Rattle.questions.specs.Asked.{check-of, event-right, lag-right};
 
 // Refused with a question's number and place.
 fn refuse(number: usize, place: usize) -> Check
@@ -79,6 +83,44 @@ fn whole(len: usize, size: usize, most: usize) -> bool
     len % size == 0 && len <= most
 }
 
+// ---- questions to the horizon and the cage
+
+fn horizon_right(h: Time) -> bool
+    ensures { λ r. ⌜ r ≡ horizon-right (h .0) ⌝ }
+{
+    between(h.0, 0, 20000)
+}
+
+fn limit_in_range(x: Height) -> bool
+    ensures { λ r. ⌜ r ≡ limit-in-range (x .0) ⌝ }
+{
+    between(x.0, -1000000, 1000000)
+}
+
+fn limits_right(c: Reservoir) -> bool
+    ensures { λ r. ⌜ r ≡ limits-right (reservoir-of c) ⌝ }
+{
+    if !limit_in_range(c.low) {
+        return false;
+    }
+    if !limit_in_range(c.high) {
+        return false;
+    }
+    limit_in_range(c.initial)
+}
+
+fn lies_in(x: Height, low: Height, high: Height) -> bool
+    ensures { λ r. ⌜ r ≡ (leZ (low .0) (x .0) && leZ (x .0) (high .0)) ⌝ }
+{
+    between(x.0, low.0, high.0)
+}
+
+fn stock_right(c: Reservoir) -> bool
+    ensures { λ r. ⌜ r ≡ stock-right (reservoir-of c) ⌝ }
+{
+    lies_in(c.initial, c.low, c.high)
+}
+
 // ---- questions to one event
 
 fn times_right(h: Time, table: &[i32], y: usize) -> bool
@@ -111,7 +153,7 @@ fn event_right(q: usize, h: Time, table: &[i32], y: usize) -> bool
 
 fn lag_events(n: usize, lags: &[i32], g: usize) -> bool
     requires { do ⌜ (n ≤ 64) × (3 * g + 3 ≤ (← ⟦lags.len()⟧)) ⌝ }
-    ensures { λ r. ⌜ r ≡ lag-events (lag-job n (now (lags .entry))) g ⌝ }
+    ensures { λ r. ⌜ r ≡ lag-events n (now (lags .entry)) g ⌝ }
 {
     let events = n as i32;
     is_event(lags[3 * g], events) && is_event(lags[3 * g + 1], events)
@@ -119,21 +161,21 @@ fn lag_events(n: usize, lags: &[i32], g: usize) -> bool
 
 fn lag_differs(lags: &[i32], g: usize) -> bool
     requires { do ⌜ 3 * g + 3 ≤ (← ⟦lags.len()⟧) ⌝ }
-    ensures { λ r. ⌜ r ≡ lag-differs (lag-job 0 (now (lags .entry))) g ⌝ }
+    ensures { λ r. ⌜ r ≡ lag-differs (now (lags .entry)) g ⌝ }
 {
     differ(lags[3 * g], lags[3 * g + 1])
 }
 
 fn lag_in_range(lags: &[i32], g: usize) -> bool
     requires { do ⌜ 3 * g + 3 ≤ (← ⟦lags.len()⟧) ⌝ }
-    ensures { λ r. ⌜ r ≡ lag-in-range (lag-job 0 (now (lags .entry))) g ⌝ }
+    ensures { λ r. ⌜ r ≡ lag-in-range (now (lags .entry)) g ⌝ }
 {
     between(lags[3 * g + 2], -20000, 20000)
 }
 
 fn lag_right(q: usize, n: usize, lags: &[i32], g: usize) -> bool
     requires { do ⌜ (n ≤ 64) × (3 * g + 3 ≤ (← ⟦lags.len()⟧)) ⌝ }
-    ensures { λ r. ⌜ r ≡ lag-right q (lag-job n (now (lags .entry))) g ⌝ }
+    ensures { λ r. ⌜ r ≡ lag-right q n (now (lags .entry)) g ⌝ }
 {
     if q == 8 {
         return lag_events(n, lags, g);
@@ -165,7 +207,7 @@ fn each_event(q: usize, h: Time, table: &[i32], n: usize) -> Check
 // Question q, 8, 9 or 10, to the m lags in order.
 fn each_lag(q: usize, n: usize, lags: &[i32], m: usize) -> Check
     requires { do ⌜ (n ≤ 64) × (3 * m ≤ (← ⟦lags.len()⟧)) ⌝ }
-    ensures { λ r. ⌜ check-of r ≡ each q (lag-right q (lag-job n (now (lags .entry)))) 0 m ⌝ }
+    ensures { λ r. ⌜ check-of r ≡ each q (lag-right q n (now (lags .entry))) 0 m ⌝ }
 {
     let mut g: usize = 0;
     while g < m {
@@ -180,37 +222,24 @@ fn each_lag(q: usize, n: usize, lags: &[i32], m: usize) -> Check
 
 // ---- the questions in order
 
-// The limits and the opening stock each in −1,000,000..1,000,000.
-fn limits(low: i32, high: i32, q: i32) -> bool
-    ensures { λ r. ⌜ r ≡ (limit-in-range low && limit-in-range high && limit-in-range q) ⌝ }
+// Questions 1 to 3, to the horizon and the cage.
+fn cage_questions(h: Time, c: Reservoir) -> Check
+    ensures { λ r. ⌜ check-of r ≡ cage-questions (h .0) (reservoir-of c) ⌝ }
 {
-    if !between(low, -1000000, 1000000) {
-        return false;
-    }
-    if !between(high, -1000000, 1000000) {
-        return false;
-    }
-    between(q, -1000000, 1000000)
-}
-
-// Questions 1 to 3, to the horizon and the reservoir.
-fn of_reservoir(h: i32, low: i32, high: i32, q: i32) -> Check
-    ensures { λ r. ⌜ check-of r ≡ reservoir-questions h low high q ⌝ }
-{
-    if !between(h, 0, 20000) {
+    if !horizon_right(h) {
         return refuse(1, 0);
     }
-    if !limits(low, high, q) {
+    if !limits_right(c) {
         return refuse(2, 0);
     }
-    if !between(q, low, high) {
+    if !stock_right(c) {
         return refuse(3, 0);
     }
     Check::Pass
 }
 
 // Questions 4 to 6, to the window table.
-fn of_windows(h: Time, table: &[i32]) -> Check
+fn window_questions(h: Time, table: &[i32]) -> Check
     ensures { λ r. ⌜ check-of r ≡ window-questions (h .0) (now (table .entry)) ⌝ }
 {
     if !whole(table.len(), 4, 256) {
@@ -225,7 +254,7 @@ fn of_windows(h: Time, table: &[i32]) -> Check
 }
 
 // Questions 7 to 10, to the lag table of a job of n events.
-fn of_lags(n: usize, lags: &[i32]) -> Check
+fn lag_questions(n: usize, lags: &[i32]) -> Check
     requires { ⌜ n ≤ 64 ⌝ }
     ensures { λ r. ⌜ check-of r ≡ lag-questions n (now (lags .entry)) ⌝ }
 {
@@ -245,8 +274,8 @@ fn of_lags(n: usize, lags: &[i32]) -> Check
 }
 
 // Question 11, to the slip buffer's length.
-fn of_room(room: usize) -> Check
-    ensures { λ r. ⌜ check-of r ≡ room-question room ⌝ }
+pub fn room_question(room: usize) -> Check
+    ensures { λ r. ⌜ check-of r ≡ ask 11 (room-right room) ⌝ }
 {
     if room < 3 {
         return refuse(11, 0);
@@ -257,30 +286,39 @@ fn of_room(room: usize) -> Check
     Check::Pass
 }
 
-// Questions 1 to 11 of a call.
-pub fn questions(
-    h: i32,
-    low: i32,
-    high: i32,
-    q: i32,
-    table: &[i32],
-    lags: &[i32],
-    room: usize,
-) -> Check
-    ensures { λ r. ⌜ check-of r ≡ questions (job h low high q (now (table .entry)) (now (lags .entry))) (now (table .entry)) room ⌝ }
+// The job's own questions, 1 to 10.
+pub fn own_questions(k: Job, table: &[i32], lags: &[i32]) -> Check
+    ensures { λ r. ⌜ (
+        (j : Call) →
+        Holds k (now (lags .entry)) j →
+        j .window-table ≡ now (table .entry) →
+        check-of r ≡ own-questions j
+        ) ⌝ }
 {
-    let reservoir = of_reservoir(h, low, high, q);
-    let Check::Pass = reservoir else {
-        return reservoir;
+    let h = k.horizon;
+    let cage = cage_questions(h, k.reservoir);
+    let Check::Pass = cage else {
+        return cage;
     };
-    let windows = of_windows(Time(h), table);
+    let windows = window_questions(h, table);
     let Check::Pass = windows else {
         return windows;
     };
-    let n = table.len() / 4;
-    let precedences = of_lags(n, lags);
-    let Check::Pass = precedences else {
-        return precedences;
+    lag_questions(table.len() / 4, lags)
+}
+
+// Questions 1 to 11: the job's own, then of the slip buffer's length.
+pub fn questions(k: Job, table: &[i32], lags: &[i32], room: usize) -> Check
+    ensures { λ r. ⌜ (
+        (j : Call) →
+        Holds k (now (lags .entry)) j →
+        j .window-table ≡ now (table .entry) →
+        check-of r ≡ questions j room
+        ) ⌝ }
+{
+    let own = own_questions(k, table, lags);
+    let Check::Pass = own else {
+        return own;
     };
-    of_room(room)
+    room_question(room)
 }

@@ -1,9 +1,9 @@
--- `questions::asked::of_windows` puts questions 4 to 6, each where those before it passed. Assumes nothing.
+-- `questions::asked::window_questions` puts questions 4 to 6, each where those before it passed. Assumes nothing.
 use borrow.Author.Tests.{not-true, not-false}
 use Rattle.questions.proofs.Questions.{ask-no, ask-yes, then-pass, then-refuse}
 use borrow.Author.Needs.{needs}
-use Rattle.questions.proofs.asked.of_windows.Statement.{statement}
-use Rattle.questions.proofs.asked.of_windows.Tie as tie
+use Rattle.questions.proofs.asked.window_questions.Statement.{statement}
+use Rattle.questions.proofs.asked.window_questions.Tie as tie
 
 whole-requires : tie.Need-whole-requires
 whole-requires c κs = search needs
@@ -36,8 +36,8 @@ returns-3 c =
     ask-yes 4 (c .before .before .before .before .before .whole .ensures) (not-false _ (c .before .before .before .before .if1 .left))
     (then-pass (c .before .before .before .each-event .ensures) (c .before .enum-told .given .1) (c .each-event2 .ensures))
 
-pub of-windows-spec : {M : Type 1} → statement M
-of-windows-spec =
+pub window-questions-spec : {M : Type 1} → statement M
+window-questions-spec =
     tie.close
     (tie.spec
     whole-requires

@@ -1,8 +1,8 @@
--- `questions::asked::of_room` puts question 11. Assumes nothing.
+-- `questions::asked::room_question` puts question 11. Assumes nothing.
 use borrow.Author.Tests.{le-leb, lt-leb}
 use borrow.Author.Needs.{needs}
-use Rattle.questions.proofs.asked.of_room.Statement.{statement}
-use Rattle.questions.proofs.asked.of_room.Tie as tie
+use Rattle.questions.proofs.asked.room_question.Statement.{statement}
+use Rattle.questions.proofs.asked.room_question.Tie as tie
 
 refuse-requires : tie.Need-refuse-requires
 refuse-requires c κs = search needs
@@ -19,5 +19,5 @@ returns-2 c = rw (le-leb 3 _ (c .before .before .if1 .left), lt-leb _ 1000000 (c
 returns-3 : tie.Need-returns-3
 returns-3 c = rw (le-leb 3 _ (c .before .if1 .left), le-leb _ 1000000 (c .if2 .left))
 
-pub of-room-spec : {M : Type 1} → statement M
-of-room-spec = tie.close (tie.spec refuse-requires returns refuse-requires-2 returns-2 returns-3)
+pub room-question-spec : {M : Type 1} → statement M
+room-question-spec = tie.close (tie.spec refuse-requires returns refuse-requires-2 returns-2 returns-3)

@@ -1,9 +1,9 @@
--- `questions::asked::of_lags` puts questions 7 to 10, each where those before it passed. Assumes nothing.
+-- `questions::asked::lag_questions` puts questions 7 to 10, each where those before it passed. Assumes nothing.
 use borrow.Author.Tests.{not-true, not-false}
 use Rattle.questions.proofs.Questions.{ask-no, ask-yes, then-pass, then-refuse}
 use borrow.Author.Needs.{needs}
-use Rattle.questions.proofs.asked.of_lags.Statement.{statement}
-use Rattle.questions.proofs.asked.of_lags.Tie as tie
+use Rattle.questions.proofs.asked.lag_questions.Statement.{statement}
+use Rattle.questions.proofs.asked.lag_questions.Tie as tie
 
 whole-requires : tie.Need-whole-requires
 whole-requires c κs = search needs
@@ -52,8 +52,8 @@ returns-4 c =
     (then-pass (c .before .before .before .before .before .before .each-lag .ensures) (c .before .before .before .before .enum-told .given .1)
     (then-pass (c .before .before .before .each-lag2 .ensures) (c .before .enum-told3 .given .1) (c .each-lag3 .ensures)))
 
-pub of-lags-spec : {M : Type 1} → statement M
-of-lags-spec =
+pub lag-questions-spec : {M : Type 1} → statement M
+lag-questions-spec =
     tie.close
     (tie.spec
     whole-requires
