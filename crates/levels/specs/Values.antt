@@ -1,13 +1,16 @@
--- Places, reservoirs and what an event adds as the code has them, and the numbers in play.
+-- Places and views as the code has them, what is seen in a view, and the numbers in play.
+use mathlib.Core.Path.{_≡_}
 use mathlib.Core.Bool.{Bool, true, false}
-use Prim.Native.Nat.{ℕ, _<_, _≤_}
+use Prim.Native.Nat.{ℕ, _<_}
 use lib.IntN.{ℤ}
 use Rattle.integers.specs.Range.{Within}
-use Rattle.model.specs.Job.{End, t-min, t-max, h-max, Windows, Reservoir}
-use Rattle.model.specs.Levels.{Switch, ahead, Place, sure, possible, never, placed, gain}
-pub use Rattle.model.proofs.Ranges.{span}
-use Rattle.tables.specs.declared.Reservoir.{Reservoir as Held}
+use Rattle.model.specs.Job.{t-min, t-max, h-max, Windows, ahead, Reservoir}
+use Rattle.model.specs.Standing.{Ranged}
+use Rattle.model.specs.View as model
+use Rattle.model.specs.View.{side, view-of}
+use Rattle.model.specs.Levels.{Place, sure, possible, never, placed, gain}
 use Rattle.levels.specs.declared.Place.{Place as Tested}
+use Rattle.levels.specs.declared.View.{View}
 
 -- A place by its two tests.
 abbrev pub place-by : Bool → Bool → Place
@@ -19,21 +22,32 @@ place-by false false = never
 abbrev pub place-of : Tested → Place
 place-of p = place-by (p .sure) (p .possible)
 
--- The code's reservoir.
-abbrev pub reservoir-of : Held → Reservoir
-reservoir-of c = record { min-level = c .low .0; max-level = c .high .0; initial = c .initial .0 }
+-- The code's view: how it counts, and the windows W as it sees them.
+abbrev pub as-view : View → model.View
+as-view v =
+    record {
+      subject = v .subject;
+      events = v .events;
+      limit = v .limit .0;
+      opening = v .opening .0;
+      before = λ y. v .strict;
+    }
 
--- What y, as another event than e, adds to the level of e, whose time window is u..v.
-abbrev pub other-gains : Switch → Windows → ℤ → ℤ → ℕ → ℤ
+abbrev pub seen-by : View → Windows → Windows
+seen-by v W = side (v .mirror) W
+
+-- It is the view at e of side m, before (b true) or by, of n events and a cage.
+pub record Views (n : ℕ) (c : Reservoir) (m b : Bool) (e : ℕ) (v : View) : Type 0 where
+  pub is : as-view v ≡ view-of n c m b e
+  pub side-is : v .mirror ≡ m
+
+-- Its numbers are in range, and those of the windows at hand.
+pub record Sighted (v : View) (W : Windows) : Type 0 where
+  pub ranged : Ranged (v .events) W
+  pub subject : v .subject < v .events
+  pub limit-range : Within (v .limit .0) 1000000
+  pub opening-range : Within (v .opening .0) 1000000
+
+-- What y, as another event than e, adds to the level of e, whose time window is u..v; s says before or by.
+abbrev pub other-gains : (ℕ → Bool) → Windows → ℤ → ℤ → ℕ → ℤ
 other-gains s W u v y = gain (placed false (s y) (ahead (s y) (W y t-max) u) (ahead (s y) (W y t-min) v)) (W y h-max)
-
--- The windows of n events, at most 64.
-pub record Ranged (n : ℕ) (W : Windows) : Type 0 where
-  pub few : n ≤ 64
-  pub range : (y : ℕ) → y < n → (k : End) → Within (W y k) (span k)
-
--- The reservoir's limits and opening stock.
-pub record Reserved (c : Reservoir) : Type 0 where
-  pub min-range : Within (c .min-level) 1000000
-  pub max-range : Within (c .max-level) 1000000
-  pub initial-range : Within (c .initial) 1000000

@@ -1,11 +1,13 @@
 // What an event adds, most before (by) e, and the sure part: the level loops.
 use crate::Place;
+use crate::View;
 use crate::places::ahead;
 use crate::places::placed;
 use crate::places::produces;
 use crate::places::side_h_max;
+use crate::views::e_max;
+use crate::views::e_min;
 use tables::Height;
-use tables::Reservoir;
 use tables::Time;
 use tables::t_max;
 use tables::t_min;
@@ -16,10 +18,11 @@ ghost use lib.IntN.{pos, _+ℤ_, _-ℤ_};
 ghost use Rattle.integers.specs.Range.{Within};
 ghost use Rattle.integers.specs.Sum.{sum};
 ghost use Rattle.model.specs.Job.{h-min, h-max};
-ghost use Rattle.model.specs.Levels.{gain, most-in, most, sure-part, side};
-ghost use Rattle.model.specs.Rules.{switch};
+ghost use Rattle.model.specs.Standing.{Ranged};
+ghost use Rattle.model.specs.View.{side};
+ghost use Rattle.model.specs.Levels.{gain, most-in, most, sure-part};
 ghost use Rattle.tables.specs.Board.{board};
-ghost use Rattle.levels.specs.Values.{place-of, reservoir-of, other-gains, Ranged, Reserved};
+ghost use Rattle.levels.specs.Values.{place-of, as-view, seen-by, other-gains, Sighted};
 
 // The sum of two amounts.
 pub fn plus(a: Height, b: Height) -> Height
@@ -59,7 +62,7 @@ pub fn gain(p: Place, h: Height) -> Height
 // What event y, as another than e, adds to the level of e, whose time window is u..v, on a side.
 pub fn other_gain(b: &[i32; 256], m: bool, strict: bool, u: Time, v: Time, y: usize) -> Height
     requires { ⌜ (y < 64) × Within (board (now b) y h-min) 9999 ⌝ }
-    ensures { λ r. ⌜ r .0 ≡ other-gains (switch strict) (side m (board (now (b .entry)))) (u .0) (v .0) y ⌝ }
+    ensures { λ r. ⌜ r .0 ≡ other-gains (λ y. strict) (side m (board (now (b .entry)))) (u .0) (v .0) y ⌝ }
 {
     let surely = ahead(strict, t_max(b, y), u);
     let possibly = ahead(strict, t_min(b, y), v);
@@ -79,28 +82,12 @@ pub fn own_gain(b: &[i32; 256], m: bool, strict: bool, e: usize) -> Height
     }
 }
 
-// The opening stock.
-pub fn opening(c: Reservoir) -> Height
-    ensures { λ r. ⌜ r .0 ≡ c .initial .0 ⌝ }
+// The opening stock q and what all events add, e taken for another event: this loop has no test for e.
+fn sum_gains(b: &[i32; 256], n: usize, q: Height, m: bool, strict: bool, u: Time, v: Time) -> Height
+    requires { ⌜ Ranged n (board (now b)) × Within (q .0) 1000000 ⌝ }
+    ensures { λ r. ⌜ r .0 ≡ q .0 +ℤ sum n (other-gains (λ y. strict) (side m (board (now (b .entry)))) (u .0) (v .0)) ⌝ }
 {
-    let q = c.initial;
-    q
-}
-
-// The opening stock and what all events add, e taken for another event: this loop has no test for e.
-fn sum_gains(
-    b: &[i32; 256],
-    n: usize,
-    c: Reservoir,
-    m: bool,
-    strict: bool,
-    u: Time,
-    v: Time,
-) -> Height
-    requires { ⌜ Ranged n (board (now b)) × Reserved (reservoir-of c) ⌝ }
-    ensures { λ r. ⌜ r .0 ≡ c .initial .0 +ℤ sum n (other-gains (switch strict) (side m (board (now (b .entry)))) (u .0) (v .0)) ⌝ }
-{
-    let mut total = opening(c);
+    let mut total = q;
     let mut y: usize = 0;
     while y < n {
         let h = other_gain(b, m, strict, u, v, y);
@@ -110,68 +97,53 @@ fn sum_gains(
     total
 }
 
-// The same, with the side and before or by as literals at the loop, which is then one of four without tests of them.
-pub fn all_gains(
-    b: &[i32; 256],
-    n: usize,
-    c: Reservoir,
-    m: bool,
-    strict: bool,
-    u: Time,
-    v: Time,
-) -> Height
-    requires { ⌜ Ranged n (board (now b)) × Reserved (reservoir-of c) ⌝ }
-    ensures { λ r. ⌜ r .0 ≡ c .initial .0 +ℤ sum n (other-gains (switch strict) (side m (board (now (b .entry)))) (u .0) (v .0)) ⌝ }
+// The same in a view, with the side and before or by as literals at the loop, which is then one of four without tests of them.
+pub fn all_gains(b: &[i32; 256], view: View, u: Time, v: Time) -> Height
+    requires { ⌜ Sighted view (board (now b)) ⌝ }
+    ensures { λ r. ⌜ r .0 ≡ view .opening .0 +ℤ sum (view .events) (other-gains (as-view view .before) (seen-by view (board (now (b .entry)))) (u .0) (v .0)) ⌝ }
 {
-    if m {
-        if strict {
-            sum_gains(b, n, c, true, true, u, v)
+    let n = view.events;
+    let q = view.opening;
+    if view.mirror {
+        if view.strict {
+            sum_gains(b, n, q, true, true, u, v)
         } else {
-            sum_gains(b, n, c, true, false, u, v)
+            sum_gains(b, n, q, true, false, u, v)
         }
     } else {
-        if strict {
-            sum_gains(b, n, c, false, true, u, v)
+        if view.strict {
+            sum_gains(b, n, q, false, true, u, v)
         } else {
-            sum_gains(b, n, c, false, false, u, v)
+            sum_gains(b, n, q, false, false, u, v)
         }
     }
 }
 
-// Most before (by) e on a side, whose reservoir is c, with u..v for e's time window.
-pub fn most_in(
-    b: &[i32; 256],
-    n: usize,
-    c: Reservoir,
-    m: bool,
-    strict: bool,
-    e: usize,
-    u: Time,
-    v: Time,
-) -> Height
-    requires { ⌜ Ranged n (board (now b)) × Reserved (reservoir-of c) × (e < n) ⌝ }
-    ensures { λ r. ⌜ r .0 ≡ most-in (switch strict) n (reservoir-of c) (side m (board (now (b .entry)))) e (u .0) (v .0) ⌝ }
+// Most before (by) e with u..v for e's time window.
+pub fn most_in(b: &[i32; 256], view: View, u: Time, v: Time) -> Height
+    requires { ⌜ Sighted view (board (now b)) ⌝ }
+    ensures { λ r. ⌜ r .0 ≡ most-in (as-view view) (seen-by view (board (now (b .entry)))) (u .0) (v .0) ⌝ }
 {
-    let all = all_gains(b, n, c, m, strict, u, v);
+    let m = view.mirror;
+    let strict = view.strict;
+    let e = view.subject;
+    let all = all_gains(b, view, u, v);
     let others = minus(all, other_gain(b, m, strict, u, v, e));
     plus(others, own_gain(b, m, strict, e))
 }
 
-// Most before (by) e on a side.
-pub fn most(b: &[i32; 256], n: usize, c: Reservoir, m: bool, strict: bool, e: usize) -> Height
-    requires { ⌜ Ranged n (board (now b)) × Reserved (reservoir-of c) × (e < n) ⌝ }
-    ensures { λ r. ⌜ r .0 ≡ most (switch strict) n (reservoir-of c) (side m (board (now (b .entry)))) e ⌝ }
+// Most before (by) e.
+pub fn most(b: &[i32; 256], view: View) -> Height
+    requires { ⌜ Sighted view (board (now b)) ⌝ }
+    ensures { λ r. ⌜ r .0 ≡ most (as-view view) (seen-by view (board (now (b .entry)))) ⌝ }
 {
-    let u = t_min(b, e);
-    let v = t_max(b, e);
-    most_in(b, n, c, m, strict, e, u, v)
+    most_in(b, view, e_min(b, view), e_max(b, view))
 }
 
 // The surely-before (by) part with the opening stock: the level where e comes too early for any event to be possibly before (by) it.
-pub fn sure_part(b: &[i32; 256], n: usize, c: Reservoir, m: bool, strict: bool, e: usize) -> Height
-    requires { ⌜ Ranged n (board (now b)) × Reserved (reservoir-of c) × (e < n) ⌝ }
-    ensures { λ r. ⌜ r .0 ≡ sure-part (switch strict) n (reservoir-of c) (side m (board (now (b .entry)))) e ⌝ }
+pub fn sure_part(b: &[i32; 256], view: View) -> Height
+    requires { ⌜ Sighted view (board (now b)) ⌝ }
+    ensures { λ r. ⌜ r .0 ≡ sure-part (as-view view) (seen-by view (board (now (b .entry)))) ⌝ }
 {
-    let u = t_min(b, e);
-    most_in(b, n, c, m, strict, e, u, Time(-20001))
+    most_in(b, view, e_min(b, view), Time(-20001))
 }

@@ -1,22 +1,19 @@
 // Before and by, an event's place to e, delivery and pull, and the mirror: the leaves that compare and negate words.
 use crate::Place;
 use tables::Height;
-use tables::Reservoir;
 use tables::Time;
 use tables::h_max;
 use tables::h_min;
-use tables::t_max;
-use tables::t_min;
 ghost use mathlib.Core.Path.{_≡_};
 ghost use Prim.Native.Nat.{_<_};
 ghost use lib.IntN.{pos, negℤ, _+ℤ_, _-ℤ_};
 ghost use lib.Signed.{leZ, ltZ};
 ghost use Rattle.integers.specs.Range.{Within};
-ghost use Rattle.model.specs.Job.{h-min, h-max, produces, consumes};
-ghost use Rattle.model.specs.Levels.{ahead, placed, place, side, side-value, side-reservoir};
-ghost use Rattle.model.specs.Rules.{switch};
+ghost use Rattle.model.specs.Job.{h-min, h-max, ahead, produces, consumes};
+ghost use Rattle.model.specs.View.{side, side-value};
+ghost use Rattle.model.specs.Levels.{placed};
 ghost use Rattle.tables.specs.Board.{board};
-ghost use Rattle.levels.specs.Values.{place-of, reservoir-of, Reserved};
+ghost use Rattle.levels.specs.Values.{place-of};
 
 pub fn earlier(a: Time, b: Time) -> bool
     ensures { λ r. ⌜ r ≡ ltZ (a .0) (b .0) ⌝ }
@@ -95,16 +92,6 @@ pub fn placed(own: bool, strict: bool, surely: bool, possibly: bool) -> Place
     }
 }
 
-// Where y stands to e, whose time window is u..v.
-pub fn place(b: &[i32; 256], strict: bool, e: usize, u: Time, v: Time, y: usize) -> Place
-    requires { ⌜ y < 64 ⌝ }
-    ensures { λ r. ⌜ place-of r ≡ place (switch strict) (board (now (b .entry))) e (u .0) (v .0) y ⌝ }
-{
-    let surely = ahead(strict, t_max(b, y), u);
-    let possibly = ahead(strict, t_min(b, y), v);
-    placed(y == e, strict, surely, possibly)
-}
-
 // The other sign.
 pub fn negated(h: Height) -> Height
     requires { ⌜ Within (h .0) 10000000 ⌝ }
@@ -122,29 +109,10 @@ pub fn side_h_max(b: &[i32; 256], m: bool, y: usize) -> Height
     if m { negated(h_min(b, y)) } else { h_max(b, y) }
 }
 
-// An amount of a side read back.
+// An amount turned to the other side, or back.
 pub fn side_height(m: bool, h: Height) -> Height
     requires { ⌜ Within (h .0) 10000000 ⌝ }
     ensures { λ r. ⌜ r .0 ≡ side-value m h-min (h .0) ⌝ }
 {
     if m { negated(h) } else { h }
-}
-
-// The reservoir of a side.
-pub fn side_reservoir(m: bool, c: Reservoir) -> Reservoir
-    requires { ⌜ Reserved (reservoir-of c) ⌝ }
-    ensures { λ r. ⌜ reservoir-of r ≡ side-reservoir m (reservoir-of c) ⌝ }
-{
-    if m {
-        let low = c.low;
-        let high = c.high;
-        let initial = c.initial;
-        Reservoir {
-            low: negated(high),
-            high: negated(low),
-            initial: negated(initial),
-        }
-    } else {
-        c
-    }
 }

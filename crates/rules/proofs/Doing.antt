@@ -1,6 +1,6 @@
 -- What a finding does to its target's window, as `rules::effects` computes it.
 -- Assumes nothing.
-use mathlib.Core.Path.{_≡_, refl}
+use mathlib.Core.Path.{_≡_, refl, _∙_}
 use mathlib.Core.Bool.{Bool, true, false}
 use Prim.Native.Nat.{ℕ, zero, suc, _<_, _≤_}
 use native.Mathlib.Omega.{arith}
@@ -8,14 +8,15 @@ use lib.IntN.{ℤ}
 use lib.Signed.{leZ}
 use Rattle.integers.specs.Range.{Within}
 use Rattle.integers.proofs.Linear.{ints}
-use Rattle.model.specs.Job.{End, t-min, t-max, h-min, h-max, Windows}
-use Rattle.model.specs.Levels.{side-end}
-use Rattle.model.specs.Rules.{Finding, nothing, clash, bound, Rule, reservoir, rule, family-end, own-end, narrows, effect}
-use Rattle.rules.specs.Values.{family-of, narrowing, Did}
-use Rattle.levels.specs.Values.{span, Ranged}
-use Rattle.rules.specs.declared.Effect.{Effect as Done}
+use Rattle.model.specs.Job.{End, t-min, t-max, h-min, h-max, opposite, meets, Windows}
+use Rattle.model.specs.Standing.{span, Ranged}
+use Rattle.model.specs.View.{side-end}
+use Rattle.model.specs.Rules.{Finding, nothing, clash, bound, Rule, reservoir, rule, family-end, own-end, Effect, narrows, effect}
+use Rattle.model.specs.Slips.{end}
+use Rattle.rules.specs.Values.{family-of, narrowing}
 
 -- ---- the end of a rule's bound
+
 low-family : (m : Bool) (k : ℕ) → k < 2 → side-end m (family-end (family-of k)) ≡ t-min
 low-family true zero h = refl
 low-family false zero h = refl
@@ -45,13 +46,18 @@ module _ (m s : Bool) (k : ℕ) {q : Rule} (is : reservoir m s (family-of k) ≡
   end-high h p = rw (← is, high-family k h, p)
 
 -- ---- a bound at that end
-pub does-at : {e k : End} (W : Windows) (y : ℕ) {v w : ℤ} {x : Done} → e ≡ k → w ≡ v → Did k W y (bound w) x → Did e W y (bound v) x
-does-at W y p q z = rw (p, ← q) z
 
-pub does-found : (k : End) (W : Windows) (y : ℕ) {f g : Finding} {x : Done} → f ≡ g → Did k W y g x → Did k W y f x
-does-found k W y p z = rw p z
+-- The bound v of a kind against both ends of y's window.
+pub bound-does : (k : ℕ) (W : Windows) (y : ℕ) (v : ℤ) (o : ℕ) {a b : Bool} {i l : ℤ} {x : Effect} → end o ≡ opposite (end k) →
+    i ≡ W y (end o) → a ≡ meets (end o) i v → l ≡ W y (end k) → b ≡ meets (end k) v l → x ≡ narrowing a b v → x ≡ effect (end k) W y (bound v)
+bound-does k W y v o p q r s t u = u ∙ rw (r, t, q, s, p)
+
+-- The same at a rule's own end, of a finding that is a bound.
+pub found-does : (k : ℕ) {e : End} (W : Windows) (y : ℕ) {v w : ℤ} {f : Finding} {x : Effect} → end k ≡ e → w ≡ v → f ≡ bound v → x ≡ effect (end k) W y (bound w) → x ≡ effect e W y f
+found-does k W y p q r s = s ∙ rw (p, q, r)
 
 -- ---- a new end is in its range
+
 between : (a b : Bool) (w v : ℤ) → narrowing a b w ≡ narrows v → (a ≡ true) × (b ≡ false) × (w ≡ v)
 between true true w v e = let z : _≡_ {A = ℕ} 0 1 = cc in absurd (omega arith)
 between true false w v e = (refl, refl, cc)

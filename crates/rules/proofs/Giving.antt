@@ -3,17 +3,24 @@
 use mathlib.Core.Path.{_≡_, refl, sym, ap, _∙_}
 use mathlib.Core.Bool.{Bool, true, false}
 use mathlib.Core.List.{List}
-use Prim.Native.Nat.{ℕ, zero, suc, _-_, _/_, _%_, _≤_}
+use Prim.Native.Nat.{ℕ, zero, suc, _-_, _/_, _%_, _≤_, _<_}
 use native.Mathlib.Omega.{arith}
 use lib.Dec.{eqb, ltb}
 use lib.IntN.{ℤ, natAbs, _+ℤ_, _-ℤ_}
+use lib.ListN.{length}
 use lib.Signed.{ltZ}
-use Rattle.integers.proofs.Linear.{ints, neg-law}
-use Rattle.model.specs.Job.{t-min, t-max, h-min, h-max, Windows, Reservoir}
-use Rattle.model.specs.Levels.{place, most, side, side-value, side-reservoir}
-use Rattle.model.specs.Rules.{switch, Finding, nothing, clash, bound, given-if, Family, level, time, height, reservoir, rule, finding, time-rule, targeted, side-finding}
-use Rattle.rules.specs.Values.{family-of, side-rule, job-of, lag-at, Lagged}
-use Rattle.levels.specs.Values.{Reserved}
+use Rattle.model.specs.Job.{t-min, t-max, h-min, h-max, Windows, lag-word, Job as Call}
+use Rattle.model.specs.Standing.{Ranged}
+use Rattle.model.specs.View.{side-value}
+use Rattle.model.specs.Levels.{stands, most}
+use Rattle.model.specs.Rules.{Finding, nothing, clash, bound, given-if, Family, level, time, height, Rule, reservoir, rule, finding, time-rule, targeted, side-finding}
+use Rattle.tables.specs.Job.{reservoir-of, Holds, Fit}
+use Rattle.tables.specs.declared.Job.{Job}
+use Rattle.levels.specs.Values.{as-view, seen-by, Views}
+use Rattle.levels.specs.declared.View.{View as Sight}
+use Rattle.rules.specs.Values.{family-of, seen-rule, subjects-of, Lagged}
+
+-- ---- by number
 
 -- The three tests on a number of 3..14.
 pub variant-is : (r : ℕ) → 3 ≤ r → r ≤ 14 → reservoir (eqb ((r - 3) / 3 % 2) 1) (ltb (r - 3) 6) (family-of ((r - 3) % 3)) ≡ rule r
@@ -37,15 +44,16 @@ variant-is (suc (suc (suc k))) l h = go k (omega arith)
     go (suc (suc (suc (suc (suc (suc (suc (suc (suc (suc (suc zero))))))))))) h = refl
     go (suc (suc (suc (suc (suc (suc (suc (suc (suc (suc (suc (suc k)))))))))))) h = absurd (omega arith)
 
--- The limits keep their range in the mirror.
-pub side-reserved : (m : Bool) {c : Reservoir} → Reserved c → Reserved (side-reservoir m c)
-side-reserved true {c} r =
-    record {
-      min-range = let h = r .max-range in omega (ints, neg-law (c .max-level));
-      max-range = let h = r .min-range in omega (ints, neg-law (c .min-level));
-      initial-range = let h = r .initial-range in omega (ints, neg-law (c .initial));
-    }
-side-reserved false r = r
+pub family-rest : (k : ℕ) → (k ≡ 0 → ⊥) → (k ≡ 1 → ⊥) → family-of k ≡ height
+family-rest zero a b = absurd (a refl)
+family-rest (suc zero) a b = absurd (b refl)
+family-rest (suc (suc k)) a b = refl
+
+-- A rule of 3..14 has events for subjects.
+pub event-subject : (m b : Bool) (f : Family) {q : Rule} (k : Job) (ws : List ℤ) {e : ℕ} → reservoir m b f ≡ q → e < subjects-of q k ws → e < k .events
+event-subject m b f k ws p l = rw (← p) at l
+
+-- ---- what the families give
 
 -- A time is read back as it is.
 side-time : (m : Bool) (f : Finding) → side-finding m t-min f ≡ f
@@ -62,51 +70,48 @@ found-it p q = rw p at q
 pub found-none : {t : Bool} (v : ℤ) {f : Finding} → t ≡ false → given-if t (bound v) ≡ f → nothing ≡ f
 found-none v p q = rw p at q
 
-module _ (m strict : Bool) (n : ℕ) (c : Reservoir) (W : Windows) (e : ℕ) {d : Reservoir} (mirrored : d ≡ side-reservoir m c) where
-  pub level-yes : {t : Bool} → t ≡ ltZ (most (switch strict) n d (side m W) e) (d .min-level) → t ≡ true → clash ≡ side-rule level m strict n c W e e
-  level-yes p q = let x = rw mirrored at p in rw (sym x ∙ q)
+module _ (v : Sight) (W : Windows) where
+  pub level-yes : {t : Bool} → t ≡ ltZ (most (as-view v) (seen-by v W)) (v .limit .0) → t ≡ true → clash ≡ seen-rule level v W (v .subject)
+  level-yes p q = rw (sym p ∙ q)
 
-  pub level-no : {t : Bool} → t ≡ ltZ (most (switch strict) n d (side m W) e) (d .min-level) → t ≡ false → nothing ≡ side-rule level m strict n c W e e
-  level-no p q = let x = rw mirrored at p in rw (sym x ∙ q)
+  pub level-no : {t : Bool} → t ≡ ltZ (most (as-view v) (seen-by v W)) (v .limit .0) → t ≡ false → nothing ≡ seen-rule level v W (v .subject)
+  level-no p q = rw (sym p ∙ q)
 
-  pub time-is : {f : Finding} → f ≡ time-rule (switch strict) n d (side m W) e → f ≡ side-rule time m strict n c W e e
-  time-is p = (rw mirrored at p) ∙ sym (side-time m (time-rule (switch strict) n (side-reservoir m c) (side m W) e))
+  pub time-is : {f : Finding} → f ≡ time-rule (as-view v) (seen-by v W) → f ≡ seen-rule time v W (v .subject)
+  time-is p = p ∙ sym (side-time (v .mirror) (time-rule (as-view v) (seen-by v W)))
 
-  pub height-yes : (y : ℕ) {t : Bool} {x r : ℤ} → t ≡ targeted (place (switch strict) (side m W) e (side m W e t-min) (side m W e t-max) y) (side m W y h-max) → t ≡ true →
-      x ≡ d .min-level -ℤ (most (switch strict) n d (side m W) e -ℤ side m W y h-max) → r ≡ side-value m h-min x → bound r ≡ side-rule height m strict n c W e y
-  height-yes y p q x r = let z = rw mirrored at x in rw (sym p ∙ q) (ap bound (rw z at r))
+  pub height-yes : (y : ℕ) {t : Bool} {x r : ℤ} → t ≡ targeted (stands (as-view v) (seen-by v W) y) (seen-by v W y h-max) → t ≡ true →
+      x ≡ v .limit .0 -ℤ (most (as-view v) (seen-by v W) -ℤ seen-by v W y h-max) → r ≡ side-value (v .mirror) h-min x → bound r ≡ seen-rule height v W y
+  height-yes y p q x r = rw (sym p ∙ q) (ap bound (rw x at r))
 
-pub height-no : (m strict : Bool) (n : ℕ) (c : Reservoir) (W : Windows) (e y : ℕ) {t : Bool} → t ≡ targeted (place (switch strict) (side m W) e (side m W e t-min) (side m W e t-max) y) (side m W y h-max) → t ≡ false → nothing ≡ side-rule height m strict n c W e y
-height-no m strict n c W e y p q = rw (sym p ∙ q)
+  pub height-no : (y : ℕ) {t : Bool} → t ≡ targeted (stands (as-view v) (seen-by v W) y) (seen-by v W y h-max) → t ≡ false → nothing ≡ seen-rule height v W y
+  height-no y p q = rw (sym p ∙ q)
 
--- ---- by number
-pub family-rest : (k : ℕ) → (k ≡ 0 → ⊥) → (k ≡ 1 → ⊥) → family-of k ≡ height
-family-rest zero a b = absurd (a refl)
-family-rest (suc zero) a b = absurd (b refl)
-family-rest (suc (suc k)) a b = refl
+-- ---- in a job
 
-pub more-events : {n : ℕ} {lags : List ℤ} {g : ℕ} → n ≤ 64 → Lagged n lags g → Lagged 64 lags g
-more-events h l =
+-- Lag g, where its numbers are in range.
+pub lagged : {k : Job} {ws : List ℤ} {W : Windows} → Fit k ws → Ranged (k .events) W → (g : ℕ) → g < length ws / 3 → Lagged ws W g
+lagged {k} {ws} {W} f r g l =
+    let s = f .lag g l in
+    let few = f .few-events in
     record {
-      there = l .there;
-      a-low = l .a-low;
-      b-low = l .b-low;
-      a-high = omega arith;
-      b-high = omega arith;
-      gap = l .gap;
+      there = l;
+      sane = record { sign-a = s .sign-a; sign-b = s .sign-b; real-a = omega arith; real-b = omega arith; gap-range = s .gap-range };
+      early = r .range (natAbs (lag-word ws g 0)) (s .real-a) t-min;
+      late = r .range (natAbs (lag-word ws g 1)) (s .real-b) t-max;
     }
 
-module _ (c : Reservoir) (n : ℕ) (lags : List ℤ) (W : Windows) (r e y : ℕ) where
-  pub gives-upper : {x : ℤ} → r ≡ 1 → x ≡ W (natAbs (lag-at lags e 1)) t-max +ℤ lag-at lags e 2 → (h : ℤ) → bound x ≡ finding (rule r) (job-of h c n lags) W e y
+module _ {k : Job} {ws : List ℤ} (W : Windows) (r e y : ℕ) where
+  pub gives-upper : {x : ℤ} → r ≡ 1 → x ≡ W (natAbs (lag-word ws e 1)) t-max +ℤ lag-word ws e 2 → (j : Call) → Holds k ws j → bound x ≡ finding (rule r) j W e y
   unfolding finding
-  gives-upper p q h = rw (p, q)
+  gives-upper p q j h = rw (p, q, h .lags-are)
 
-  pub gives-lower : {x : ℤ} → r ≡ 2 → x ≡ W (natAbs (lag-at lags e 0)) t-min -ℤ lag-at lags e 2 → (h : ℤ) → bound x ≡ finding (rule r) (job-of h c n lags) W e y
+  pub gives-lower : {x : ℤ} → r ≡ 2 → x ≡ W (natAbs (lag-word ws e 0)) t-min -ℤ lag-word ws e 2 → (j : Call) → Holds k ws j → bound x ≡ finding (rule r) j W e y
   unfolding finding
-  gives-lower p q h = rw (p, q)
+  gives-lower p q j h = rw (p, q, h .lags-are)
 
   -- The rule's variant and its family are known.
-  pub gives-side : (m strict : Bool) (k : ℕ) {f : Finding} {g : Family} → reservoir m strict (family-of k) ≡ rule r → family-of k ≡ g → f ≡ side-rule g m strict n c W e y →
-      (h : ℤ) → f ≡ finding (rule r) (job-of h c n lags) W e y
+  pub gives-seen : (m b : Bool) (i : ℕ) {v : Sight} {f : Finding} {g : Family} → reservoir m b (family-of i) ≡ rule r → Views (k .events) (reservoir-of (k .reservoir)) m b e v → family-of i ≡ g → f ≡ seen-rule g v W y →
+      (j : Call) → Holds k ws j → f ≡ finding (rule r) j W e y
   unfolding finding
-  gives-side m strict k p q s h = let z = rw q at p in rw (← z) s
+  gives-seen m b i {v} p s q t j h = let z = rw q at p in t ∙ rw (← z, h .events-are, h .reservoir-is, s .is, s .side-is)

@@ -1,7 +1,8 @@
-// What the three families of reservoir rules give on a side: the level's conflict, e's time, an amount.
+// What the three families of reservoir rules give in a view: the level's conflict, e's time, an amount.
 use crate::Search;
 use crate::Soonest;
 use levels::Place;
+use levels::View;
 use levels::levels::minus;
 use levels::levels::most;
 use levels::levels::most_in;
@@ -10,13 +11,12 @@ use levels::places::at_most;
 use levels::places::below;
 use levels::places::consumes;
 use levels::places::minute_after;
-use levels::places::place;
 use levels::places::produces;
-use levels::places::side_h_max;
+use levels::views::e_min;
+use levels::views::seen_h_max;
+use levels::views::stands;
 use tables::Height;
-use tables::Reservoir;
 use tables::Time;
-use tables::t_max;
 use tables::t_min;
 ghost use mathlib.Core.Path.{_≡_};
 ghost use mathlib.Core.Bool.{_&&_};
@@ -24,30 +24,21 @@ ghost use Prim.Native.Nat.{_<_};
 ghost use lib.IntN.{_-ℤ_};
 ghost use lib.Signed.{leZ, ltZ};
 ghost use Rattle.integers.specs.Range.{Within};
-ghost use Rattle.model.specs.Job.{t-min, t-max, h-min, h-max};
-ghost use Rattle.model.specs.Levels.{place, most, side};
-ghost use Rattle.model.specs.Rules.{switch, counts-from, earlier, given-if, bound, possible-producer, reached-at, earliest, time-rule, targeted};
+ghost use Rattle.model.specs.Job.{t-min, h-min, h-max};
+ghost use Rattle.model.specs.Levels.{stands, most};
+ghost use Rattle.model.specs.Rules.{counts-from, earlier, given-if, bound, possible-producer, reached-at, earliest, time-rule, targeted};
 ghost use Rattle.tables.specs.Board.{board};
-ghost use Rattle.levels.specs.Values.{place-of, reservoir-of, Ranged, Reserved};
+ghost use Rattle.levels.specs.Values.{place-of, as-view, seen-by, Sighted};
 ghost use Rattle.rules.specs.Values.{soonest-of, Short};
 
 // ---- the level
 
 // Rules 3 and 9: is most before (by) e below the limit?
-pub fn level_clashes(
-    b: &[i32; 256],
-    n: usize,
-    c: Reservoir,
-    m: bool,
-    strict: bool,
-    e: usize,
-) -> bool
-    requires { ⌜ Ranged n (board (now b)) × Reserved (reservoir-of c) × (e < n) ⌝ }
-    ensures { λ r. ⌜ r ≡ ltZ (most (switch strict) n (reservoir-of c) (side m (board (now (b .entry)))) e) (c .low .0) ⌝ }
+pub fn level_clashes(b: &[i32; 256], view: View) -> bool
+    requires { ⌜ Sighted view (board (now b)) ⌝ }
+    ensures { λ r. ⌜ r ≡ ltZ (most (as-view view) (seen-by view (board (now (b .entry))))) (view .limit .0) ⌝ }
 {
-    let level = most(b, n, c, m, strict, e);
-    let low = c.low;
-    below(level, low)
+    below(most(b, view), view.limit)
 }
 
 // ---- e's time
@@ -60,6 +51,14 @@ pub fn counts_from(strict: bool, t: Time) -> Time
     if strict { minute_after(t) } else { t }
 }
 
+// The time of e from which y counts.
+fn starts(b: &[i32; 256], view: View, y: usize) -> Time
+    requires { ⌜ (y < 64) × Within (board (now b) y t-min) 20000 ⌝ }
+    ensures { λ r. ⌜ r .0 ≡ counts-from (view .strict) (seen-by view (board (now (b .entry))) y t-min) ⌝ }
+{
+    counts_from(view.strict, t_min(b, y))
+}
+
 // A delivery possibly, not surely, before (by).
 pub fn possible_producer(p: Place, h: Height) -> bool
     ensures { λ r. ⌜ r ≡ possible-producer (place-of p) (h .0) ⌝ }
@@ -68,27 +67,25 @@ pub fn possible_producer(p: Place, h: Height) -> bool
     !p.sure & p.possible & made
 }
 
-// Is the limit reached at y, with e no later than y counts from?
-pub fn reached_at(
-    b: &[i32; 256],
-    n: usize,
-    c: Reservoir,
-    m: bool,
-    strict: bool,
-    e: usize,
-    y: usize,
-) -> bool
-    requires { ⌜ Ranged n (board (now b)) × Reserved (reservoir-of c) × (e < n) × (y < n) ⌝ }
-    ensures { λ r. ⌜ r ≡ reached-at (switch strict) n (reservoir-of c) (side m (board (now (b .entry)))) e y ⌝ }
+// Is y a delivery possibly, not surely, before (by) e?
+fn may_count(b: &[i32; 256], view: View, y: usize) -> bool
+    requires { ⌜ (view .subject < 64) × (y < 64) × Within (board (now b) y h-min) 9999 ⌝ }
+    ensures { λ r. ⌜
+        r
+        ≡ possible-producer (stands (as-view view) (seen-by view (board (now (b .entry)))) y) (seen-by view (board (now (b .entry))) y h-max)
+        ⌝ }
 {
-    let u = t_min(b, e);
-    let p = place(b, strict, e, u, t_max(b, e), y);
-    let h = side_h_max(b, m, y);
-    if possible_producer(p, h) {
-        let v = counts_from(strict, t_min(b, y));
-        let level = most_in(b, n, c, m, strict, e, u, v);
-        let low = c.low;
-        at_most(low, level)
+    possible_producer(stands(b, view, y), seen_h_max(b, view, y))
+}
+
+// Is the limit reached at y, with e no later than y counts from?
+pub fn reached_at(b: &[i32; 256], view: View, y: usize) -> bool
+    requires { ⌜ Sighted view (board (now b)) × (y < view .events) ⌝ }
+    ensures { λ r. ⌜ r ≡ reached-at (as-view view) (seen-by view (board (now (b .entry)))) y ⌝ }
+{
+    if may_count(b, view, y) {
+        let level = most_in(b, view, e_min(b, view), starts(b, view, y));
+        at_most(view.limit, level)
     } else {
         false
     }
@@ -116,64 +113,38 @@ fn falls_short(short: Soonest, t: Time) -> bool
     found & (y <= x)
 }
 
-// Is y a delivery possibly, not surely, before (by) e?
-fn may_count(b: &[i32; 256], m: bool, strict: bool, e: usize, y: usize) -> bool
-    requires { ⌜ (e < 64) × (y < 64) × Within (board (now b) y h-min) 9999 ⌝ }
-    ensures { λ r. ⌜
-        r
-        ≡ possible-producer
-        (place (switch strict) (side m (board (now (b .entry)))) e (side m (board (now (b .entry))) e t-min) (side m (board (now (b .entry))) e t-max) y)
-        (side m (board (now (b .entry))) y h-max)
-        ⌝ }
-{
-    let p = place(b, strict, e, t_min(b, e), t_max(b, e), y);
-    let h = side_h_max(b, m, y);
-    possible_producer(p, h)
-}
-
 // The search goes on with y. The level is asked for only where y's time lies between the two.
-pub fn search_event(
-    b: &[i32; 256],
-    n: usize,
-    c: Reservoir,
-    m: bool,
-    strict: bool,
-    e: usize,
-    y: usize,
-    s: Search,
-) -> Search
+pub fn search_event(b: &[i32; 256], view: View, y: usize, s: Search) -> Search
     requires { ⌜
-        Ranged n (board (now b))
-        × Reserved (reservoir-of c)
-        × (e < n)
-        × (y < n)
-        × Short (switch strict) n (reservoir-of c) (side m (board (now b))) e (s .short)
+        Sighted view (board (now b))
+        × (y < view .events)
+        × Short (as-view view) (seen-by view (board (now b))) (s .short)
         ⌝ }
     ensures { λ r. ⌜
         (soonest-of (r .best)
         ≡ earlier (soonest-of (s .best))
-        (given-if (reached-at (switch strict) n (reservoir-of c) (side m (board (now (b .entry)))) e y)
-        (bound (counts-from strict (side m (board (now (b .entry))) y t-min)))))
-        × Short (switch strict) n (reservoir-of c) (side m (board (now (b .entry)))) e (r .short)
+        (given-if (reached-at (as-view view) (seen-by view (board (now (b .entry)))) y)
+        (bound (counts-from (view .strict) (seen-by view (board (now (b .entry))) y t-min)))))
+        × Short (as-view view) (seen-by view (board (now (b .entry)))) (r .short)
         ⌝ }
 {
     let best = s.best;
     let short = s.short;
-    let t = counts_from(strict, t_min(b, y));
+    let t = starts(b, view, y);
     if is_beaten(best, t) {
         return s;
     }
     if falls_short(short, t) {
         return s;
     }
-    if reached_at(b, n, c, m, strict, e, y) {
+    if reached_at(b, view, y) {
         let found = Soonest { found: true, at: t };
         return Search {
             best: found,
             short: short,
         };
     }
-    if may_count(b, m, strict, e, y) {
+    if may_count(b, view, y) {
         let missed = Soonest { found: true, at: t };
         return Search {
             best: best,
@@ -184,9 +155,9 @@ pub fn search_event(
 }
 
 // The earliest time of e at which the limit is reached.
-pub fn earliest(b: &[i32; 256], n: usize, c: Reservoir, m: bool, strict: bool, e: usize) -> Soonest
-    requires { ⌜ Ranged n (board (now b)) × Reserved (reservoir-of c) × (e < n) ⌝ }
-    ensures { λ r. ⌜ soonest-of r ≡ earliest (switch strict) n (reservoir-of c) (side m (board (now (b .entry)))) e n ⌝ }
+pub fn earliest(b: &[i32; 256], view: View) -> Soonest
+    requires { ⌜ Sighted view (board (now b)) ⌝ }
+    ensures { λ r. ⌜ soonest-of r ≡ earliest (as-view view) (seen-by view (board (now (b .entry)))) (view .events) ⌝ }
 {
     let none = Soonest {
         found: false,
@@ -196,9 +167,10 @@ pub fn earliest(b: &[i32; 256], n: usize, c: Reservoir, m: bool, strict: bool, e
         best: none,
         short: none,
     };
+    let n = view.events;
     let mut y: usize = 0;
     while y < n {
-        s = search_event(b, n, c, m, strict, e, y, s);
+        s = search_event(b, view, y, s);
         y += 1;
     }
     let best = s.best;
@@ -206,14 +178,12 @@ pub fn earliest(b: &[i32; 256], n: usize, c: Reservoir, m: bool, strict: bool, e
 }
 
 // Rules 4 and 10: where the sure part is below the limit, the earliest time at which it is reached.
-pub fn time_rule(b: &[i32; 256], n: usize, c: Reservoir, m: bool, strict: bool, e: usize) -> Soonest
-    requires { ⌜ Ranged n (board (now b)) × Reserved (reservoir-of c) × (e < n) ⌝ }
-    ensures { λ r. ⌜ soonest-of r ≡ time-rule (switch strict) n (reservoir-of c) (side m (board (now (b .entry)))) e ⌝ }
+pub fn time_rule(b: &[i32; 256], view: View) -> Soonest
+    requires { ⌜ Sighted view (board (now b)) ⌝ }
+    ensures { λ r. ⌜ soonest-of r ≡ time-rule (as-view view) (seen-by view (board (now (b .entry)))) ⌝ }
 {
-    let sure = sure_part(b, n, c, m, strict, e);
-    let low = c.low;
-    if below(sure, low) {
-        return earliest(b, n, c, m, strict, e);
+    if below(sure_part(b, view), view.limit) {
+        return earliest(b, view);
     }
     Soonest {
         found: false,
@@ -233,39 +203,24 @@ pub fn targeted(p: Place, h: Height) -> bool
 }
 
 // Is y a target of rules 5 and 11 at e?
-pub fn is_target(b: &[i32; 256], m: bool, strict: bool, e: usize, y: usize) -> bool
-    requires { ⌜ (e < 64) × (y < 64) × Within (board (now b) y h-min) 9999 ⌝ }
+pub fn is_target(b: &[i32; 256], view: View, y: usize) -> bool
+    requires { ⌜ (view .subject < 64) × (y < 64) × Within (board (now b) y h-min) 9999 ⌝ }
     ensures { λ r. ⌜
-        r
-        ≡ targeted
-        (place (switch strict) (side m (board (now (b .entry)))) e (side m (board (now (b .entry))) e t-min) (side m (board (now (b .entry))) e t-max) y)
-        (side m (board (now (b .entry))) y h-max)
+        r ≡ targeted (stands (as-view view) (seen-by view (board (now (b .entry)))) y) (seen-by view (board (now (b .entry))) y h-max)
         ⌝ }
 {
-    let p = place(b, strict, e, t_min(b, e), t_max(b, e), y);
-    let h = side_h_max(b, m, y);
-    targeted(p, h)
+    targeted(stands(b, view, y), seen_h_max(b, view, y))
 }
 
 // Rules 5 and 11: h(y) ≥ Lmin − (most before (by) e − h_max(y)).
-pub fn height_bound(
-    b: &[i32; 256],
-    n: usize,
-    c: Reservoir,
-    m: bool,
-    strict: bool,
-    e: usize,
-    y: usize,
-) -> Height
-    requires { ⌜ Ranged n (board (now b)) × Reserved (reservoir-of c) × (e < n) × (y < n) ⌝ }
+pub fn height_bound(b: &[i32; 256], view: View, y: usize) -> Height
+    requires { ⌜ Sighted view (board (now b)) × (y < view .events) ⌝ }
     ensures { λ r. ⌜
         r .0
-        ≡ c .low .0
-        -ℤ (most (switch strict) n (reservoir-of c) (side m (board (now (b .entry)))) e -ℤ side m (board (now (b .entry))) y h-max)
+        ≡ view .limit .0
+        -ℤ (most (as-view view) (seen-by view (board (now (b .entry)))) -ℤ seen-by view (board (now (b .entry))) y h-max)
         ⌝ }
 {
-    let level = most(b, n, c, m, strict, e);
-    let others = minus(level, side_h_max(b, m, y));
-    let low = c.low;
-    minus(low, others)
+    let others = minus(most(b, view), seen_h_max(b, view, y));
+    minus(view.limit, others)
 }

@@ -1,49 +1,31 @@
-// The rules by number and what each gives.
+// What each rule gives.
 use crate::Finding;
-use crate::Variant;
 use crate::bounds::height_bound;
 use crate::bounds::is_target;
 use crate::bounds::level_clashes;
 use crate::bounds::time_rule;
 use crate::lags::lag_lower;
 use crate::lags::lag_upper;
+use crate::numbers::rule_view;
+use crate::numbers::variant;
+use levels::View;
 use levels::places::side_height;
-use levels::places::side_reservoir;
-use tables::Reservoir;
+use tables::Job;
 ghost use mathlib.Core.Path.{_≡_};
-ghost use Prim.Native.Nat.{_<_, _≤_};
-ghost use lib.IntN.{ℤ};
+ghost use Prim.Native.Nat.{_<_};
+ghost use Rattle.model.specs.Job.{Job as Call};
 ghost use Rattle.model.specs.Rules.{rule, level, time, height, finding};
 ghost use Rattle.tables.specs.Board.{board};
-ghost use Rattle.levels.specs.Values.{reservoir-of, Ranged, Reserved};
-ghost use Rattle.rules.specs.Values.{variant-of, finding-of, job-of, side-rule, Put};
-
-// Rules 3 to 14 by number.
-pub fn variant(r: usize) -> Variant
-    requires { ⌜ (3 ≤ r) × (r ≤ 14) ⌝ }
-    ensures { λ v. ⌜ variant-of v ≡ rule r ⌝ }
-{
-    let k = r - 3;
-    Variant {
-        mirror: k / 3 % 2 == 1,
-        strict: k < 6,
-        family: k % 3,
-    }
-}
+ghost use Rattle.tables.specs.Job.{Holds};
+ghost use Rattle.levels.specs.Values.{Sighted};
+ghost use Rattle.rules.specs.Values.{finding-of, seen-rule, Tries};
 
 // Rules 3, 6, 9, 12: a conflict of the levels, or nothing.
-pub fn level_finding(
-    b: &[i32; 256],
-    n: usize,
-    c: Reservoir,
-    m: bool,
-    strict: bool,
-    e: usize,
-) -> Finding
-    requires { ⌜ Ranged n (board (now b)) × Reserved (reservoir-of c) × (e < n) ⌝ }
-    ensures { λ f. ⌜ finding-of f ≡ side-rule level m strict n (reservoir-of c) (board (now (b .entry))) e e ⌝ }
+pub fn level_finding(b: &[i32; 256], view: View) -> Finding
+    requires { ⌜ Sighted view (board (now b)) ⌝ }
+    ensures { λ f. ⌜ finding-of f ≡ seen-rule level view (board (now (b .entry))) (view .subject) ⌝ }
 {
-    if level_clashes(b, n, side_reservoir(m, c), m, strict, e) {
+    if level_clashes(b, view) {
         Finding::Clash
     } else {
         Finding::Nothing
@@ -51,18 +33,11 @@ pub fn level_finding(
 }
 
 // Rules 4, 7, 10, 13: a bound on e's time, or nothing.
-pub fn time_finding(
-    b: &[i32; 256],
-    n: usize,
-    c: Reservoir,
-    m: bool,
-    strict: bool,
-    e: usize,
-) -> Finding
-    requires { ⌜ Ranged n (board (now b)) × Reserved (reservoir-of c) × (e < n) ⌝ }
-    ensures { λ f. ⌜ finding-of f ≡ side-rule time m strict n (reservoir-of c) (board (now (b .entry))) e e ⌝ }
+pub fn time_finding(b: &[i32; 256], view: View) -> Finding
+    requires { ⌜ Sighted view (board (now b)) ⌝ }
+    ensures { λ f. ⌜ finding-of f ≡ seen-rule time view (board (now (b .entry))) (view .subject) ⌝ }
 {
-    let s = time_rule(b, n, side_reservoir(m, c), m, strict, e);
+    let s = time_rule(b, view);
     let t = s.at;
     if s.found {
         Finding::At(t)
@@ -72,41 +47,25 @@ pub fn time_finding(
 }
 
 // Rules 5, 8, 11, 14: a bound on y's amount, or nothing.
-pub fn height_finding(
-    b: &[i32; 256],
-    n: usize,
-    c: Reservoir,
-    m: bool,
-    strict: bool,
-    e: usize,
-    y: usize,
-) -> Finding
-    requires { ⌜ Ranged n (board (now b)) × Reserved (reservoir-of c) × (e < n) × (y < n) ⌝ }
-    ensures { λ f. ⌜ finding-of f ≡ side-rule height m strict n (reservoir-of c) (board (now (b .entry))) e y ⌝ }
+pub fn height_finding(b: &[i32; 256], view: View, y: usize) -> Finding
+    requires { ⌜ Sighted view (board (now b)) × (y < view .events) ⌝ }
+    ensures { λ f. ⌜ finding-of f ≡ seen-rule height view (board (now (b .entry))) y ⌝ }
 {
-    if is_target(b, m, strict, e, y) {
-        let h = height_bound(b, n, side_reservoir(m, c), m, strict, e, y);
-        Finding::Of(side_height(m, h))
+    if is_target(b, view, y) {
+        let h = height_bound(b, view, y);
+        Finding::Of(side_height(view.mirror, h))
     } else {
         Finding::Nothing
     }
 }
 
 // What rule r gives for a subject e (a lag number in rules 1 and 2) and a target y.
-pub fn finding(
-    b: &[i32; 256],
-    lags: &[i32],
-    n: usize,
-    c: Reservoir,
-    r: usize,
-    e: usize,
-    y: usize,
-) -> Finding
-    requires { ⌜ Put (now lags) n (reservoir-of c) (board (now b)) r e y ⌝ }
+pub fn finding(b: &[i32; 256], lags: &[i32], k: Job, r: usize, e: usize, y: usize) -> Finding
+    requires { ⌜ Tries k (now lags) (board (now b)) r e y ⌝ }
     ensures { λ f. ⌜ (
-        (h : ℤ) →
-        finding-of f
-        ≡ finding (rule r) (job-of h (reservoir-of c) n (now (lags .entry))) (board (now (b .entry))) e y
+        (j : Call) →
+        Holds k (now (lags .entry)) j →
+        finding-of f ≡ finding (rule r) j (board (now (b .entry))) e y
         ) ⌝ }
 {
     if r == 1 {
@@ -116,14 +75,13 @@ pub fn finding(
         return Finding::At(lag_lower(b, lags, e));
     }
     let v = variant(r);
-    let m = v.mirror;
-    let strict = v.strict;
     let family = v.family;
+    let view = rule_view(k, v, e);
     if family == 0 {
-        return level_finding(b, n, c, m, strict, e);
+        return level_finding(b, view);
     }
     if family == 1 {
-        return time_finding(b, n, c, m, strict, e);
+        return time_finding(b, view);
     }
-    height_finding(b, n, c, m, strict, e, y)
+    height_finding(b, view, y)
 }

@@ -1,11 +1,13 @@
 // What each of the fourteen rules gives on a board of windows, and what that does to the target's window.
-pub mod bounds; // bounds.rt: what the families of reservoir rules give on a side
+pub mod bounds; // bounds.rt: what the families of reservoir rules give in a view
 pub mod lags; // lags.rt: the lag table's words, rules 1 and 2
-pub mod findings; // findings.rt: the rules by number, what each gives
+pub mod numbers; // numbers.rt: the rules by number
+pub mod findings; // findings.rt: what each rule gives
 pub mod effects; // effects.rt: what that does to the target's window
 
 use tables::Height;
 use tables::Time;
+use tables::Word;
 
 // The earliest time found, if any.
 pub struct Soonest {
@@ -37,7 +39,6 @@ pub enum Finding {
 // What a finding does to its target's window: nothing, a new end, a conflict.
 pub enum Effect {
     Idle,
-    NarrowsTime(Time),
-    NarrowsHeight(Height),
+    Narrows(Word),
     Fails,
 }

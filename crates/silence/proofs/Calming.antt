@@ -7,32 +7,30 @@ use Prim.Native.Nat.{ℕ, zero, suc, _+_, _<_, _≤_}
 use native.Mathlib.Decide.{ℕ-discrete}
 use native.Mathlib.Numerals.{add-one}
 use native.Mathlib.Omega.{arith}
-use borrow.Author.Tests.{ne-eqb}
 use lib.Dec.{T}
 use lib.IntN.{ℤ, pos, natAbs, _+ℤ_, _-ℤ_}
 use lib.Signed.{leZ, ltZ, _≤ℤ_, leZ-yes}
 use Rattle.integers.specs.Range.{Within}
 use Rattle.integers.specs.Sum.{sum}
-use Rattle.integers.proofs.Linear.{ints, add-law, sub-law}
+use Rattle.integers.proofs.Linear.{ints, add-law}
 use Rattle.integers.proofs.Sums.{sum-le, sum-le-but}
 use Rattle.integers.proofs.Tests.{is-true, true-is, and-in, and-out}
-use Rattle.model.specs.Job.{t-min, t-max, h-min, h-max, Windows, Reservoir, Job, produces, lag-a, lag-b, lag-d}
-use Rattle.model.specs.Levels.{Switch, ahead, placed, gain, gains, most-in, most, side, side-reservoir}
-use Rattle.model.specs.Rules.{switch, level, time, height, lag-upper, lag-lower, reservoir, finding, idle, narrows, fails}
-use Rattle.model.proofs.Levels.{gain-possible, most-later}
-use Rattle.model.proofs.Silence.{Idle, side-idle, level-idle, time-idle, spared-idle, Quiet}
-use Rattle.rules.specs.Values.{lag-at}
-use Rattle.levels.specs.Values.{Ranged, Reserved}
-use Rattle.silence.specs.Calm.{reaches-early, floor-gain, floor-of, larger, spread-of, floored, calm, drain, deep, ordered, all-calm, lag-kept}
+use Rattle.model.specs.Job.{t-min, t-max, h-min, h-max, Windows, ahead, produces, lag-word, Reservoir, Job, events, lag-a, lag-b, lag-d}
+use Rattle.model.specs.Standing.{Ranged}
+use Rattle.model.specs.View.{side-value, side, side-limit, View, view, seen}
+use Rattle.model.specs.Levels.{placed, e-min, e-max, gain, gains, most-in, most}
+use Rattle.model.specs.Rules.{level, time, height, lag-upper, lag-lower, reservoir, finding, idle, narrows, fails}
+use Rattle.model.proofs.Levels.{gain-possible}
+use Rattle.model.proofs.Silence.{Idle, seen-idle, level-idle, time-idle, early-most, spared-idle, Quiet}
 use Rattle.levels.proofs.Placing.{side-early, side-late}
 use Rattle.levels.proofs.Adding.{kept-within, side-ranged, within-sum, own-term, other-term}
+use Rattle.silence.specs.Calm.{reaches-early, floor-gain, floor-of, larger, spread-of, floored, calm, drain, deep, ordered, all-calm, lag-kept}
 use Rattle.silence.proofs.Sparing.{width-side}
 
 -- ---- the tests as the code makes them
 
-pub early-at : (m strict : Bool) (n : ℕ) (c : Reservoir) (W : Windows) (e : ℕ) {u v l : ℤ} {d : Reservoir} {o r : Bool} → u ≡ W e t-min → v ≡ W e t-max → d ≡ side-reservoir m c →
-    l ≡ most-in (switch strict) n d (side m W) e u u → o ≡ leZ u v → r ≡ leZ (d .min-level) l → (o && r) ≡ reaches-early m strict n c W e
-early-at m strict n c W e a b d l o r = rw (o, r, l, d, a, b)
+pub early-at : (E : View) (X : Windows) {u v l : ℤ} {o r : Bool} → u ≡ e-min E X → v ≡ e-max E X → o ≡ leZ u v → l ≡ most-in E X u u → r ≡ leZ (E .limit) l → (o && r) ≡ reaches-early E X
+early-at E X a b o l r = rw (o, r, l, a, b)
 
 pub floor-at : (m : Bool) (W : Windows) (u : ℤ) (y : ℕ) {from to h r : ℤ} {a g t : Bool} → from ≡ W y t-min → a ≡ ltZ from u → to ≡ W y t-max → g ≡ leZ to u → h ≡ side m W y h-max → t ≡ produces h →
     r ≡ cond ((t && a) || (not t && g)) h (pos 0) → r ≡ floor-gain (side m W) u y
@@ -42,8 +40,8 @@ pub floor-within : {n : ℕ} {W : Windows} (u : ℤ) (y : ℕ) → Ranged n W �
 floor-within {n} {W} u y r l =
     kept-within ((produces (W y h-max) && ltZ (W y t-min) u) || (not (produces (W y h-max)) && leZ (W y t-max) u)) (W y h-max) (r .range y l h-max)
 
-pub floors-within : {n : ℕ} (i : ℕ) {c : Reservoir} {W : Windows} (u : ℤ) → Ranged n W → Reserved c → i ≤ n → Within (c .initial +ℤ sum i (floor-gain W u)) 1640000
-floors-within {n} i {c} {W} u r d l = within-sum i n (c .initial) (floor-gain W u) l (r .few) (d .initial-range) (λ y b. floor-within u y r b)
+pub floors-within : {n : ℕ} (i : ℕ) {q : ℤ} {W : Windows} (u : ℤ) → Ranged n W → Within q 1000000 → i ≤ n → Within (q +ℤ sum i (floor-gain W u)) 1640000
+floors-within {n} i {q} {W} u r d l = within-sum i n q (floor-gain W u) l (r .few) d (λ y b. floor-within u y r b)
 
 pub own-makes : {h x : ℤ} {t : Bool} → h ≡ x → t ≡ produces h → t ≡ true → pos 0 ≡ cond (produces x) (pos 0) x
 own-makes p q r = rw (← p, ← q, r)
@@ -51,16 +49,25 @@ own-makes p q r = rw (← p, ← q, r)
 pub own-takes : {h x : ℤ} {t : Bool} → h ≡ x → t ≡ produces h → t ≡ false → h ≡ cond (produces x) (pos 0) x
 own-takes p q r = rw (← p, ← q, r)
 
-pub own-range : (x : ℤ) → Within x 9999 → Within (cond (produces x) (pos 0) x) 9999
+own-range : (x : ℤ) → Within x 9999 → Within (cond (produces x) (pos 0) x) 9999
 own-range x w = go (produces x)
   where
     go : (t : Bool) → Within (cond t (pos 0) x) 9999
     go true = omega arith
     go false = w
 
-pub floored-at : (m : Bool) (n : ℕ) (c : Reservoir) (W : Windows) (e : ℕ) (d : ℤ) {s : Reservoir} {u all own floor edge : ℤ} {t : Bool} → s ≡ side-reservoir m c → u ≡ W e t-min →
-    all ≡ s .initial +ℤ sum n (floor-gain (side m W) u) → own ≡ cond (produces (side m W e h-max)) (pos 0) (side m W e h-max) → floor ≡ all +ℤ own → edge ≡ s .min-level +ℤ d → t ≡ leZ edge floor → t ≡ floored m n c W e d
-floored-at m n c W e d s u a o f g t = let i = u ∙ sym (side-early m W e) in t ∙ rw (g, f, a, o, i, s)
+pub drain-within : {n : ℕ} {W : Windows} (y : ℕ) → Ranged n W → y < n → Within (drain W y) 9999
+drain-within {n} {W} y r l = own-range (W y h-max) (r .range y l h-max)
+
+pub drains-within : {n : ℕ} (i : ℕ) {q : ℤ} {W : Windows} → Ranged n W → Within q 1000000 → i ≤ n → Within (q +ℤ sum i (drain W)) 1640000
+drains-within {n} i {q} {W} r d l = within-sum i n q (drain W) l (r .few) d (λ y b. drain-within y r b)
+
+pub floored-at : (m : Bool) (n : ℕ) (c : Reservoir) (W : Windows) (e : ℕ) (d : ℤ) {q u all own floor limit edge : ℤ} {t : Bool} → q ≡ side-value m h-max (c .initial) → u ≡ W e t-min →
+    all ≡ q +ℤ sum n (floor-gain (side m W) u) → own ≡ drain (side m W) e → floor ≡ all +ℤ own → limit ≡ side-limit m c → edge ≡ limit +ℤ d → t ≡ leZ edge floor → t ≡ floored m n c W e d
+floored-at m n c W e d q u a o f l g t = let i = u ∙ sym (side-early m W e) in t ∙ rw (g, f, a, o, i, q, l)
+
+pub deep-at : (m : Bool) (n : ℕ) (c : Reservoir) (W : Windows) (d : ℤ) {q least limit edge : ℤ} {t : Bool} → q ≡ side-value m h-max (c .initial) → least ≡ q +ℤ sum n (drain (side m W)) → limit ≡ side-limit m c → edge ≡ limit +ℤ d → t ≡ leZ edge least → t ≡ deep m n c W d
+deep-at m n c W d q a l g t = t ∙ rw (g, a, q, l)
 
 module _ (n : ℕ) (c : Reservoir) (W : Windows) (e : ℕ) (d : ℤ) where
   pub calm-yes : {f g o : Bool} {u v : ℤ} → f ≡ floored false n c W e d → f ≡ true → g ≡ floored true n c W e d → u ≡ W e t-min → v ≡ W e t-max → o ≡ leZ u v → (g && o) ≡ calm n c W e d
@@ -164,47 +171,48 @@ own-under false false false h q = omega (ints, add-law (pos 0) h)
 floor-under : (q f g x y o : ℤ) → (f +ℤ y) ≤ℤ (g +ℤ x) → (x +ℤ o) ≤ℤ y → ((q +ℤ f) +ℤ o) ≤ℤ (q +ℤ g)
 floor-under q f g x y o p r = omega (ints, add-law f y, add-law g x, add-law x o, add-law q f, add-law (q +ℤ f) o, add-law q g)
 
-module _ (s : Bool) (n : ℕ) (c : Reservoir) (W : Windows) (e : ℕ) (l : e < n) where
-  pub floor-most : floor-of n c W e ≤ℤ most-in (switch s) n c W e (W e t-min) (W e t-min)
+module _ (E : View) (X : Windows) (l : E .subject < E .events) where
+  pub floor-most : floor-of (E .events) (E .opening) X (E .subject) ≤ℤ most-in E X (e-min E X) (e-min E X)
   unfolding most-in
   floor-most =
-      let u = W e t-min in
-      let f = floor-gain W u in
-      let g = gains (switch s) W e u u in
-      floor-under (c .initial) (sum n f) (sum n g) (f e) (g e) (cond (produces (W e h-max)) (pos 0) (W e h-max)) (sum-le-but n e f g l other) own
+      let n = E .events in
+      let e = E .subject in
+      let u = e-min E X in
+      let f = floor-gain X u in
+      let g = gains E X u u in
+      floor-under (E .opening) (sum n f) (sum n g) (f e) (g e) (drain X e) (sum-le-but n e f g l other) own
     where
-      other : (y : ℕ) → y < n → (y ≡ e → ⊥) → floor-gain W (W e t-min) y ≤ℤ gains (switch s) W e (W e t-min) (W e t-min) y
+      other : (y : ℕ) → y < E .events → (y ≡ E .subject → ⊥) → floor-gain X (e-min E X) y ≤ℤ gains E X (e-min E X) (e-min E X) y
       other y b d =
-          let u = W e t-min in
-          rw (other-term (switch s) W e u u y d)
-          (under-gain s (produces (W y h-max)) (ahead s (W y t-max) u) (ahead s (W y t-min) u) (ltZ (W y t-min) u) (leZ (W y t-max) u) (W y h-max) refl (begins s (W y t-min) u) (ends s (W y t-max) u))
+          let u = e-min E X in
+          rw (other-term E X u u y d)
+          (under-gain (E .before y) (produces (X y h-max)) (ahead (E .before y) (X y t-max) u) (ahead (E .before y) (X y t-min) u) (ltZ (X y t-min) u) (leZ (X y t-max) u) (X y h-max) refl (begins (E .before y) (X y t-min) u) (ends (E .before y) (X y t-max) u))
 
-      own : (floor-gain W (W e t-min) e +ℤ cond (produces (W e h-max)) (pos 0) (W e h-max)) ≤ℤ gains (switch s) W e (W e t-min) (W e t-min) e
+      own : (floor-gain X (e-min E X) (E .subject) +ℤ drain X (E .subject)) ≤ℤ gains E X (e-min E X) (e-min E X) (E .subject)
       own =
-          rw (own-term s W e (W e t-min) (W e t-min), not-before (W e t-min))
-          (own-under s (produces (W e h-max)) (leZ (W e t-max) (W e t-min)) (W e h-max) refl)
+          rw (own-term E X (e-min E X) (e-min E X), not-before (e-min E X))
+          (own-under (E .before (E .subject)) (produces (X (E .subject) h-max)) (leZ (e-max E X) (e-min E X)) (X (E .subject) h-max) refl)
 
 -- ---- what is passed over
 
--- Rules 3 and 4 (9 and 10), and their mirrors.
-module _ (m b : Bool) (j : Job) (W : Windows) (e : ℕ) where
-  early-most : leZ (W e t-min) (W e t-max) ≡ true → most-in (switch b) (j .events) (side-reservoir m (j .reservoir)) (side m W) e (W e t-min) (W e t-min) ≤ℤ most (switch b) (j .events) (side-reservoir m (j .reservoir)) (side m W) e
-  early-most h =
-      rw (side-early m W e, side-late m W e)
-      (most-later (switch b) (j .events) (side-reservoir m (j .reservoir)) (side m W) e (W e t-min) (W e t-min) (W e t-max) (leZ-yes (true-is h)))
+-- Rules 3 and 4 (9 and 10), and their mirrors: e's window is not empty, and the level reaches the limit with e at its earliest minute.
+module _ (m b : Bool) (j : Job) (W : Windows) (e : ℕ) (o : e-min (view j m b e) (seen j m e W) ≤ℤ e-max (view j m b e) (seen j m e W))
+    (k : view j m b e .limit ≤ℤ most-in (view j m b e) (seen j m e W) (e-min (view j m b e) (seen j m e W)) (e-min (view j m b e) (seen j m e W))) where
+  most-reaches : view j m b e .limit ≤ℤ most (view j m b e) (seen j m e W)
+  most-reaches = le-trans (view j m b e .limit) (most-in (view j m b e) (seen j m e W) (e-min (view j m b e) (seen j m e W)) (e-min (view j m b e) (seen j m e W))) (most (view j m b e) (seen j m e W)) k (early-most (view j m b e) (seen j m e W) o)
 
-  module _ (h : leZ (W e t-min) (W e t-max) ≡ true) (k : side-reservoir m (j .reservoir) .min-level ≤ℤ most-in (switch b) (j .events) (side-reservoir m (j .reservoir)) (side m W) e (W e t-min) (W e t-min)) where
-    pub level-passed : Idle (reservoir m b level) j W e e
-    level-passed = let a = early-most h in side-idle m b level j W e e (level-idle (switch b) (j .events) (side-reservoir m (j .reservoir)) (side m W) e e (le-trans (side-reservoir m (j .reservoir) .min-level) (most-in (switch b) (j .events) (side-reservoir m (j .reservoir)) (side m W) e (W e t-min) (W e t-min)) (most (switch b) (j .events) (side-reservoir m (j .reservoir)) (side m W) e) k a))
+  level-passed : Idle (reservoir m b level) j W e e
+  level-passed = seen-idle m b level j W e e (level-idle (view j m b e) (seen j m e W) e most-reaches)
 
-    pub time-passed : Idle (reservoir m b time) j W e e
-    time-passed = side-idle m b time j W e e (time-idle (switch b) (j .events) (side-reservoir m (j .reservoir)) (side m W) e (rw (side-early m W e) k))
+  time-passed : Idle (reservoir m b time) j W e e
+  time-passed = seen-idle m b time j W e e (time-idle (view j m b e) (seen j m e W) k)
 
-pub reached-apart : (m b : Bool) (j : Job) (W : Windows) (e : ℕ) → reaches-early m b (j .events) (j .reservoir) W e ≡ true → Idle (reservoir m b level) j W e e × Idle (reservoir m b time) j W e e
+pub reached-apart : (m b : Bool) (j : Job) (W : Windows) (e : ℕ) → reaches-early (view j m b e) (seen j m e W) ≡ true → Idle (reservoir m b level) j W e e × Idle (reservoir m b time) j W e e
 reached-apart m b j W e q =
-    let r = and-out (leZ (W e t-min) (W e t-max)) (leZ (side-reservoir m (j .reservoir) .min-level) (most-in (switch b) (j .events) (side-reservoir m (j .reservoir)) (side m W) e (W e t-min) (W e t-min))) (true-is q) in
-    let o = is-true (leZ (W e t-min) (W e t-max)) (r .0) in
-    (level-passed m b j W e o (leZ-yes (r .1)), time-passed m b j W e o (leZ-yes (r .1)))
+    let E = view j m b e in
+    let X = seen j m e W in
+    let r = and-out (leZ (e-min E X) (e-max E X)) (leZ (E .limit) (most-in E X (e-min E X) (e-min E X))) (true-is q) in
+    (level-passed m b j W e (leZ-yes (r .0)) (leZ-yes (r .1)), time-passed m b j W e (leZ-yes (r .0)) (leZ-yes (r .1)))
 
 -- All rules at e.
 over : (l d f a : ℤ) → (l +ℤ d) ≤ℤ f → pos 0 ≤ℤ d → f ≤ℤ a → l ≤ℤ a
@@ -213,59 +221,56 @@ over l d f a p q r = omega (ints, add-law l d)
 slack-wide : (l d f a t w : ℤ) → a ≤ℤ t → w ≤ℤ d → (l +ℤ d) ≤ℤ f → f ≤ℤ a → {s : ℤ} → s ≡ t -ℤ l → w ≤ℤ s
 slack-wide l d f a t w p q r v e = omega (ints, add-law l d)
 
-module _ (j : Job) (W : Windows) (e : ℕ) (d : ℤ) (l : e < j .events) (positive : pos 0 ≤ℤ d) (wide : (y : ℕ) → y < j .events → (W y h-max -ℤ W y h-min) ≤ℤ d) (ordered : leZ (W e t-min) (W e t-max) ≡ true)
-    (floors : (m : Bool) → (side-reservoir m (j .reservoir) .min-level +ℤ d) ≤ℤ floor-of (j .events) (side-reservoir m (j .reservoir)) (side m W) e) where
-  floor-early : (m b : Bool) → floor-of (j .events) (side-reservoir m (j .reservoir)) (side m W) e ≤ℤ most-in (switch b) (j .events) (side-reservoir m (j .reservoir)) (side m W) e (W e t-min) (W e t-min)
-  floor-early m b =
-      let c = side-reservoir m (j .reservoir) in
-      subst (λ (u : ℤ). floor-of (j .events) c (side m W) e ≤ℤ most-in (switch b) (j .events) c (side m W) e u u) (side-early m W e) (floor-most b (j .events) c (side m W) e l)
+side-ordered : (m : Bool) (W : Windows) (e : ℕ) → W e t-min ≤ℤ W e t-max → side m W e t-min ≤ℤ side m W e t-max
+side-ordered true W e h = h
+side-ordered false W e h = h
 
-  reaches : (m b : Bool) → side-reservoir m (j .reservoir) .min-level ≤ℤ most-in (switch b) (j .events) (side-reservoir m (j .reservoir)) (side m W) e (W e t-min) (W e t-min)
-  reaches m b =
-      let c = side-reservoir m (j .reservoir) in
-      over (c .min-level) d (floor-of (j .events) c (side m W) e) (most-in (switch b) (j .events) c (side m W) e (W e t-min) (W e t-min)) (floors m) positive (floor-early m b)
+module _ (j : Job) (W : Windows) (e : ℕ) (d : ℤ) (l : e < events j) (positive : pos 0 ≤ℤ d) (wide : (y : ℕ) → y < events j → (W y h-max -ℤ W y h-min) ≤ℤ d) (ordered : W e t-min ≤ℤ W e t-max)
+    (floors : (m : Bool) → (side-limit m (j .reservoir) +ℤ d) ≤ℤ floor-of (events j) (side-value m h-max (j .reservoir .initial)) (side m W) e) where
+  module _ (m b : Bool) where
+    abbrev E : View
+    E = view j m b e
 
-  height-passed : (m b : Bool) (y : ℕ) → y < j .events → Idle (reservoir m b height) j W e y
-  height-passed m b y h =
-      let c = side-reservoir m (j .reservoir) in
-      let early = most-in (switch b) (j .events) c (side m W) e (W e t-min) (W e t-min) in
-      let level = most (switch b) (j .events) c (side m W) e in
-      let under = early-most m b j W e ordered in
-      side-idle m b height j W e y
-      (spared-idle (switch b) (j .events) c (side m W) e y (le-trans (c .min-level) early level (reaches m b) under)
-      (slack-wide (c .min-level) d (floor-of (j .events) c (side m W) e) early level (side m W y h-max -ℤ side m W y h-min) under (width-side m W y (wide y h)) (floors m) (floor-early m b) refl))
+    abbrev X : Windows
+    X = seen j m e W
 
-  pub floors-quiet : Quiet j W e
+    abbrev floor : ℤ
+    floor = floor-of (E .events) (E .opening) X e
+
+    abbrev early : ℤ
+    early = most-in E X (e-min E X) (e-min E X)
+
+    reaches : E .limit ≤ℤ early
+    reaches = over (E .limit) d floor early (floors m) positive (floor-most E X l)
+
+    height-passed : (y : ℕ) → y < events j → Idle (reservoir m b height) j W e y
+    height-passed y h =
+        let under = early-most E X (side-ordered m W e ordered) in
+        seen-idle m b height j W e y
+        (spared-idle E X y (le-trans (E .limit) early (most E X) reaches under)
+        (slack-wide (E .limit) d floor early (most E X) (X y h-max -ℤ X y h-min) under (width-side m W y (wide y h)) (floors m) (floor-most E X l) refl))
+
+  floors-quiet : Quiet j W e
   floors-quiet =
       record {
-        level-quiet = λ m b. level-passed m b j W e ordered (reaches m b);
-        time-quiet = λ m b. time-passed m b j W e ordered (reaches m b);
-        height-quiet = λ m b y h. height-passed m b y h;
+        level-quiet = λ m b. level-passed m b j W e (side-ordered m W e ordered) (reaches m b);
+        time-quiet = λ m b. time-passed m b j W e (side-ordered m W e ordered) (reaches m b);
+        height-quiet = height-passed;
       }
 
-pub calm-quiet : (j : Job) (W : Windows) (e : ℕ) {d : ℤ} → e < j .events → d ≡ spread-of (j .events) W → calm (j .events) (j .reservoir) W e d ≡ true → Quiet j W e
+pub calm-quiet : (j : Job) (W : Windows) (e : ℕ) {d : ℤ} → e < events j → d ≡ spread-of (events j) W → calm (events j) (j .reservoir) W e d ≡ true → Quiet j W e
 calm-quiet j W e {d} l p q =
-    let a = and-out (floored false (j .events) (j .reservoir) W e d) (floored true (j .events) (j .reservoir) W e d && leZ (W e t-min) (W e t-max)) (true-is q) in
-    let b = and-out (floored true (j .events) (j .reservoir) W e d) (leZ (W e t-min) (W e t-max)) (a .1) in
-    let o = is-true (leZ (W e t-min) (W e t-max)) (b .1) in
-    floors-quiet j W e d l (rw p (spread-positive (j .events) W)) (λ y h. rw p (spread-wide (j .events) W y h)) o (λ m. go m (leZ-yes (a .0)) (leZ-yes (b .0)))
+    let n = events j in
+    let c = j .reservoir in
+    let a = and-out (floored false n c W e d) (floored true n c W e d && leZ (W e t-min) (W e t-max)) (true-is q) in
+    let b = and-out (floored true n c W e d) (leZ (W e t-min) (W e t-max)) (a .1) in
+    floors-quiet j W e d l (rw p (spread-positive n W)) (λ y h. rw p (spread-wide n W y h)) (leZ-yes (b .1)) (λ m. go m (a .0) (b .0))
   where
-    go : (m : Bool) → (side-reservoir false (j .reservoir) .min-level +ℤ d) ≤ℤ floor-of (j .events) (side-reservoir false (j .reservoir)) (side false W) e
-        → (side-reservoir true (j .reservoir) .min-level +ℤ d) ≤ℤ floor-of (j .events) (side-reservoir true (j .reservoir)) (side true W) e
-        → (side-reservoir m (j .reservoir) .min-level +ℤ d) ≤ℤ floor-of (j .events) (side-reservoir m (j .reservoir)) (side m W) e
-    go true x y = y
-    go false x y = x
+    go : (m : Bool) → T (floored false (events j) (j .reservoir) W e d) → T (floored true (events j) (j .reservoir) W e d) → (side-limit m (j .reservoir) +ℤ d) ≤ℤ floor-of (events j) (side-value m h-max (j .reservoir .initial)) (side m W) e
+    go true x y = leZ-yes y
+    go false x y = leZ-yes x
 
 -- ---- every event
-
-pub drain-within : {n : ℕ} {W : Windows} (y : ℕ) → Ranged n W → y < n → Within (drain W y) 9999
-drain-within {n} {W} y r l = own-range (W y h-max) (r .range y l h-max)
-
-pub drains-within : {n : ℕ} (i : ℕ) {c : Reservoir} {W : Windows} → Ranged n W → Reserved c → i ≤ n → Within (c .initial +ℤ sum i (drain W)) 1640000
-drains-within {n} i {c} {W} r d l = within-sum i n (c .initial) (drain W) l (r .few) (d .initial-range) (λ y b. drain-within y r b)
-
-pub deep-at : (m : Bool) (n : ℕ) (c : Reservoir) (W : Windows) (d : ℤ) {s : Reservoir} {least edge : ℤ} {t : Bool} → s ≡ side-reservoir m c → least ≡ s .initial +ℤ sum n (drain (side m W)) → edge ≡ s .min-level +ℤ d → t ≡ leZ edge least → t ≡ deep m n c W d
-deep-at m n c W d s a g t = t ∙ rw (g, a, s)
 
 pub ordered-none : (W : Windows) → true ≡ ordered 0 W
 unfolding ordered
@@ -304,11 +309,9 @@ module _ (m : Bool) (n : ℕ) (c : Reservoir) (W : Windows) (e : ℕ) (d : ℤ) 
   deep-floored : T (deep m n c W (d +ℤ pos 9999)) → T (floored m n c W e d)
   deep-floored h =
       let X = side m W in
-      let q = side-reservoir m c in
-      let w = side-ranged m r in
-      deep-under (q .min-level) d (q .initial) (sum n (drain X)) (sum n (floor-gain X (X e t-min))) (drain X e) h
+      deep-under (side-limit m c) d (side-value m h-max (c .initial)) (sum n (drain X)) (sum n (floor-gain X (X e t-min))) (drain X e) h
       (sum-le n (drain X) (floor-gain X (X e t-min)) (λ y b. under-floor (produces (X y h-max)) (ltZ (X y t-min) (X e t-min)) (leZ (X y t-max) (X e t-min)) (X y h-max) refl))
-      (drain-within e w l)
+      (drain-within e (side-ranged m r) l)
 
 pub all-calm-each : (n : ℕ) (c : Reservoir) (W : Windows) (e : ℕ) (d : ℤ) → Ranged n W → e < n → all-calm n c W d ≡ true → calm n c W e d ≡ true
 all-calm-each n c W e d r l q =
@@ -322,10 +325,10 @@ all-calm-each n c W e d r l q =
 
 -- ---- lags
 
-pub kept-at : (lags : List ℤ) (W : Windows) (g : ℕ) {a b : ℕ} {top low t₁ t₂ t₃ t₄ : ℤ} {x₁ x₂ x₃ x₄ : Bool} → a ≡ natAbs (lag-at lags g 0) → b ≡ natAbs (lag-at lags g 1) →
-    top ≡ W (natAbs (lag-at lags g 1)) t-max +ℤ lag-at lags g 2 → low ≡ W (natAbs (lag-at lags g 0)) t-min -ℤ lag-at lags g 2 →
-    t₁ ≡ W a t-min → x₁ ≡ leZ t₁ top → t₂ ≡ W a t-max → x₂ ≡ leZ t₂ top → t₃ ≡ W b t-max → x₃ ≡ leZ low t₃ → t₄ ≡ W b t-min → x₄ ≡ leZ low t₄ → ((x₁ && x₂) && (x₃ && x₄)) ≡ lag-kept lags W g
-kept-at lags W g a b top low p₁ q₁ p₂ q₂ p₃ q₃ p₄ q₄ = rw (q₁, q₂, q₃, q₄, p₁, p₂, p₃, p₄, top, low, a, b)
+pub kept-at : (ws : List ℤ) (W : Windows) (g : ℕ) {a b : ℕ} {top low t₁ t₂ t₃ t₄ : ℤ} {x₁ x₂ x₃ x₄ : Bool} → a ≡ natAbs (lag-word ws g 0) → b ≡ natAbs (lag-word ws g 1) →
+    top ≡ W (natAbs (lag-word ws g 1)) t-max +ℤ lag-word ws g 2 → low ≡ W (natAbs (lag-word ws g 0)) t-min -ℤ lag-word ws g 2 →
+    t₁ ≡ W a t-min → x₁ ≡ leZ t₁ top → t₂ ≡ W a t-max → x₂ ≡ leZ t₂ top → t₃ ≡ W b t-max → x₃ ≡ leZ low t₃ → t₄ ≡ W b t-min → x₄ ≡ leZ low t₄ → ((x₁ && x₂) && (x₃ && x₄)) ≡ lag-kept ws W g
+kept-at ws W g a b top low p₁ q₁ p₂ q₂ p₃ q₃ p₄ q₄ = rw (q₁, q₂, q₃, q₄, p₁, p₂, p₃, p₄, top, low, a, b)
 
 pub lag-idle : (j : Job) (W : Windows) (g : ℕ) → lag-kept (j .lag-table) W g ≡ true → Idle lag-upper j W g (lag-a j g) × Idle lag-lower j W g (lag-b j g)
 unfolding finding

@@ -10,16 +10,15 @@ use borrow.Author.Tests.{eq-eqb, ne-eqb, ltb-false}
 use lib.Dec.{T, ltb}
 use lib.IntN.{ℤ, pos, negℤ, _-ℤ_}
 use lib.Signed.{leZ, _≤ℤ_, leZ-yes}
-use Rattle.integers.specs.Range.{Within}
-use Rattle.integers.proofs.Linear.{ints, sub-law, neg-law}
+use Rattle.integers.proofs.Linear.{ints, neg-law}
 use Rattle.integers.proofs.Tests.{true-is, and-out}
-use Rattle.model.specs.Job.{t-min, t-max, h-min, h-max, Windows, Reservoir, Job, produces, consumes}
-use Rattle.model.specs.Levels.{ahead, placed, place, most, side, side-reservoir}
-use Rattle.model.specs.Rules.{switch, targeted, height, reservoir, effect, idle, height-rule}
-use Rattle.model.proofs.Silence.{Idle, side-idle, untargeted-idle, spared-idle}
-use Rattle.levels.specs.Values.{Ranged, Reserved}
-use Rattle.silence.specs.Slack.{slack-of, spares, aimed-at, moves, may-move, count, some-move}
-use Rattle.levels.proofs.Placing.{place-side, side-early, side-late}
+use Rattle.model.specs.Job.{t-min, t-max, h-min, h-max, Windows, ahead, produces, Job}
+use Rattle.model.specs.View.{side, View, view, seen}
+use Rattle.model.specs.Levels.{placed, e-min, e-max, stands}
+use Rattle.model.specs.Rules.{targeted, height, reservoir, effect, idle, height-rule}
+use Rattle.model.proofs.Silence.{Idle, seen-idle, untargeted-idle, spared-idle}
+use Rattle.levels.proofs.Placing.{side-early, side-late}
+use Rattle.silence.specs.Slack.{slack-of, spares, moves, may-move, count, may-be-moved, some-move}
 
 -- ---- counting
 
@@ -58,7 +57,7 @@ both-count (suc n) p y e a b d = go (ℕ-discrete y n) (ℕ-discrete e n) (λ l 
         omega arith
     go (no i) (no k) rec = let o = rec (omega arith) (omega arith) in omega arith
 
--- ---- the tests
+-- ---- the tests as the code makes them
 
 pub spared-yes : (t x : Bool) {s : Bool} → s ≡ t → s ≡ true → false ≡ (not t && x)
 spared-yes t x p q = rw (sym p ∙ q)
@@ -66,13 +65,15 @@ spared-yes t x p q = rw (sym p ∙ q)
 pub spared-no : (t x : Bool) {s r : Bool} → s ≡ t → s ≡ false → r ≡ x → r ≡ (not t && x)
 spared-no t x p q r = rw (sym p ∙ q) r
 
--- The limit taken off the level, on a side.
-pub slack-at : (m strict : Bool) (n : ℕ) (c : Reservoir) (W : Windows) (e : ℕ) {d : Reservoir} {l r : ℤ} → d ≡ side-reservoir m c → l ≡ most (switch strict) n d (side m W) e → r ≡ l -ℤ d .min-level → r ≡ slack-of m strict n c W e
-slack-at m strict n c W e p q r = r ∙ rw (q, p)
+-- y's times are the same on both sides.
+pub may-at : (m s : Bool) (W : Windows) (u v k : ℤ) (y : ℕ) {late early h : ℤ} {a b p t : Bool} → late ≡ W y t-max → a ≡ ahead s late u → early ≡ W y t-min → b ≡ ahead s early v →
+    h ≡ side m W y h-max → p ≡ produces h → t ≡ spares k (W y h-min) (W y h-max) → (not t && (a || (b && p))) ≡ may-move s (side m W) W u v k y
+may-at m s W u v k y i a j b h p t = rw (t, a, b, p, h, i, j, side-early m W y, side-late m W y)
 
-pub some-at : (m strict : Bool) (n : ℕ) (W : Windows) (e : ℕ) (k : ℤ) {u v : ℤ} {all own : ℕ} {t x : Bool} → u ≡ W e t-min → v ≡ W e t-max → all ≡ count n (may-move m strict W u v k) →
-    t ≡ may-move m strict W u v k e → own ≡ cond t 1 0 → x ≡ spares k (W e h-min) (W e h-max) → (ltb own all || (not strict && not x)) ≡ some-move m strict n W e k
-some-at m strict n W e k a b c d f g = rw (f, d, c, g, a, b)
+pub some-at : (E : View) (X W : Windows) (k : ℤ) {u v : ℤ} {all own : ℕ} {t x : Bool} → u ≡ e-min E X → v ≡ e-max E X → all ≡ count (E .events) (λ y. may-move (E .before y) X W u v k y) →
+    t ≡ may-move (E .before (E .subject)) X W u v k (E .subject) → own ≡ cond t 1 0 → x ≡ spares k (W (E .subject) h-min) (W (E .subject) h-max) →
+    (ltb own all || (not (E .before (E .subject)) && not x)) ≡ some-move E X W k
+some-at E X W k a b c d f g = rw (f, d, c, g, a, b)
 
 -- ---- no target moves
 
@@ -84,24 +85,25 @@ or-apart : (a b : Bool) → (a || b) ≡ false → (a ≡ false) × (b ≡ false
 or-apart true b e = absurd (subst T e tt)
 or-apart false b e = (refl, e)
 
-module _ (m strict : Bool) (W : Windows) (e : ℕ) (k : ℤ) where
+module _ (E : View) (X W : Windows) (k : ℤ) where
   -- As another event than e.
-  other-still : (y : ℕ) → (y ≡ e → ⊥) → may-move m strict W (W e t-min) (W e t-max) k y ≡ false → moves m strict W e k y ≡ false
+  other-still : (y : ℕ) → (y ≡ E .subject → ⊥) → may-be-moved E X W k y ≡ false → moves E X W k y ≡ false
   other-still y d h =
-      rw (place-side m (switch strict) W e (side m W e t-min) (side m W e t-max) y, side-early m W e, side-late m W e, ne-eqb y e d)
-      (go (spares k (W y h-min) (W y h-max)) (ahead strict (W y t-max) (W e t-min)) (ahead strict (W y t-min) (W e t-max)) (side m W y h-max) h)
+      rw (ne-eqb y (E .subject) d)
+      (go (spares k (W y h-min) (W y h-max)) (E .before y) (ahead (E .before y) (X y t-max) (e-min E X)) (ahead (E .before y) (X y t-min) (e-max E X)) (X y h-max) h)
     where
-      go : (t a b : Bool) (h : ℤ) → (not t && (a || (b && produces h))) ≡ false → (not t && targeted (placed false strict a b) h) ≡ false
-      go true a b h e = refl
-      go false true b h e = absurd (subst T e tt)
-      go false false true h e = e
-      go false false false h e = refl
+      go : (t s a b : Bool) (h : ℤ) → (not t && (a || (b && produces h))) ≡ false → (not t && targeted (placed false s a b) h) ≡ false
+      go true s a b h e = refl
+      go false s true b h e = absurd (subst T e tt)
+      go false s false true h e = e
+      go false s false false h e = refl
 
   -- As e itself.
-  own-still : (not strict && not (spares k (W e h-min) (W e h-max))) ≡ false → moves m strict W e k e ≡ false
+  own-still : (not (E .before (E .subject)) && not (spares k (W (E .subject) h-min) (W (E .subject) h-max))) ≡ false → moves E X W k (E .subject) ≡ false
   own-still h =
-      rw (place-side m (switch strict) W e (side m W e t-min) (side m W e t-max) e, eq-eqb e e refl)
-      (go strict (spares k (W e h-min) (W e h-max)) (ahead strict (W e t-max) (side m W e t-min)) (ahead strict (W e t-min) (side m W e t-max)) (side m W e h-max) h)
+      let e = E .subject in
+      rw (eq-eqb e e refl)
+      (go (E .before e) (spares k (W e h-min) (W e h-max)) (ahead (E .before e) (X e t-max) (e-min E X)) (ahead (E .before e) (X e t-min) (e-max E X)) (X e h-max) h)
     where
       go : (s t a b : Bool) (h : ℤ) → (not s && not t) ≡ false → (not t && targeted (placed true s a b) h) ≡ false
       go true true a b h e = refl
@@ -109,20 +111,20 @@ module _ (m strict : Bool) (W : Windows) (e : ℕ) (k : ℤ) where
       go false true a b h e = refl
       go false false a b h e = absurd (subst T e tt)
 
-  pub none-moves : (n : ℕ) → e < n → some-move m strict n W e k ≡ false → (y : ℕ) → y < n → moves m strict W e k y ≡ false
-  none-moves n l h y b =
-      let p = may-move m strict W (W e t-min) (W e t-max) k in
-      let both = or-apart (ltb (cond (p e) 1 0) (count n p)) (not strict && not (spares k (W e h-min) (W e h-max))) h in
-      go (ℕ-discrete y e) (both .0) (both .1)
+  pub none-moves : E .subject < E .events → some-move E X W k ≡ false → (y : ℕ) → y < E .events → moves E X W k y ≡ false
+  none-moves l h y b =
+      let test = may-be-moved E X W k in
+      let both = or-apart (ltb (cond (test (E .subject)) 1 0) (count (E .events) test)) (not (E .before (E .subject)) && not (spares k (W (E .subject) h-min) (W (E .subject) h-max))) h in
+      go (ℕ-discrete y (E .subject)) (both .0) (both .1)
     where
-      go : Dec (y ≡ e) → ltb (cond (may-move m strict W (W e t-min) (W e t-max) k e) 1 0) (count n (may-move m strict W (W e t-min) (W e t-max) k)) ≡ false
-          → (not strict && not (spares k (W e h-min) (W e h-max))) ≡ false → moves m strict W e k y ≡ false
+      go : Dec (y ≡ E .subject) → ltb (cond (may-be-moved E X W k (E .subject)) 1 0) (count (E .events) (may-be-moved E X W k)) ≡ false
+          → (not (E .before (E .subject)) && not (spares k (W (E .subject) h-min) (W (E .subject) h-max))) ≡ false → moves E X W k y ≡ false
       go (yes i) few own = rw i (own-still own)
       go (no d) few own =
-          let p = may-move m strict W (W e t-min) (W e t-max) k in
-          let less = ltb-false (cond (p e) 1 0) (count n p) few in
-          let two = both-count n p y e b l d in
-          other-still y d (not-hit (p y) (omega arith))
+          let test = may-be-moved E X W k in
+          let less = ltb-false (cond (test (E .subject)) 1 0) (count (E .events) test) few in
+          let two = both-count (E .events) test y (E .subject) b l d in
+          other-still y d (not-hit (test y) (omega arith))
 
 -- ---- what does not move is left as it is
 
@@ -137,19 +139,15 @@ width-side false W y l = l
 over-limit : {a b k : ℤ} → k ≡ a -ℤ b → pos 0 ≤ℤ k → b ≤ℤ a
 over-limit e l = omega ints
 
-module _ (m strict : Bool) (j : Job) (W : Windows) (e y : ℕ) where
-  spared-still : {k : ℤ} → k ≡ slack-of m strict (j .events) (j .reservoir) W e → spares k (W y h-min) (W y h-max) ≡ true
-      → effect h-min (side m W) y (height-rule (switch strict) (j .events) (side-reservoir m (j .reservoir)) (side m W) e y) ≡ idle
-  spared-still {k} i q =
-      let both = and-out (leZ (pos 0) k) (leZ (W y h-max -ℤ W y h-min) k) (true-is q) in
-      let w = width-side m W y (leZ-yes (both .1)) in
-      spared-idle (switch strict) (j .events) (side-reservoir m (j .reservoir)) (side m W) e y (over-limit i (leZ-yes (both .0))) (rw i at w)
-
+module _ (m b : Bool) (j : Job) (W : Windows) (e y : ℕ) where
   -- At a target that the level's slack does not move the rule does nothing.
-  pub still-idle : {k : ℤ} → k ≡ slack-of m strict (j .events) (j .reservoir) W e → moves m strict W e k y ≡ false → Idle (reservoir m strict height) j W e y
-  still-idle {k} i h = side-idle m strict height j W e y (go (spares k (W y h-min) (W y h-max)) refl h)
+  pub still-idle : {k : ℤ} → k ≡ slack-of (view j m b e) (seen j m e W) → moves (view j m b e) (seen j m e W) W k y ≡ false → Idle (reservoir m b height) j W e y
+  still-idle {k} i h = seen-idle m b height j W e y (go (spares k (W y h-min) (W y h-max)) refl h)
     where
-      go : (t : Bool) → spares k (W y h-min) (W y h-max) ≡ t → (not t && aimed-at m strict W e y) ≡ false
-          → effect h-min (side m W) y (height-rule (switch strict) (j .events) (side-reservoir m (j .reservoir)) (side m W) e y) ≡ idle
-      go true q f = spared-still i q
-      go false q f = untargeted-idle (switch strict) (j .events) (side-reservoir m (j .reservoir)) (side m W) e y f
+      go : (t : Bool) → spares k (W y h-min) (W y h-max) ≡ t → (not t && targeted (stands (view j m b e) (seen j m e W) y) (seen j m e W y h-max)) ≡ false
+          → effect h-min (seen j m e W) y (height-rule (view j m b e) (seen j m e W) y) ≡ idle
+      go true q f =
+          let both = and-out (leZ (pos 0) k) (leZ (W y h-max -ℤ W y h-min) k) (true-is q) in
+          let w = width-side m W y (leZ-yes (both .1)) in
+          spared-idle (view j m b e) (seen j m e W) y (over-limit i (leZ-yes (both .0))) (rw i at w)
+      go false q f = untargeted-idle (view j m b e) (seen j m e W) y f

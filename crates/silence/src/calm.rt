@@ -1,8 +1,8 @@
-// Sums that show rules at an event to do nothing, so that they are passed over.
+// Sums that show rules at an event, and lags, to do nothing, so that they are passed over.
 use crate::slack::width;
+use levels::View;
 use levels::levels::kept;
 use levels::levels::most_in;
-use levels::levels::opening;
 use levels::levels::plus;
 use levels::places::at_most;
 use levels::places::below;
@@ -10,7 +10,10 @@ use levels::places::earlier;
 use levels::places::no_later;
 use levels::places::produces;
 use levels::places::side_h_max;
-use levels::places::side_reservoir;
+use levels::views::e_max;
+use levels::views::e_min;
+use levels::views::side_limit;
+use levels::views::side_opening;
 use rules::lags::lag_event;
 use rules::lags::lag_lower;
 use rules::lags::lag_upper;
@@ -20,39 +23,30 @@ use tables::Time;
 use tables::t_max;
 use tables::t_min;
 ghost use mathlib.Core.Path.{_≡_};
-ghost use mathlib.Core.Bool.{cond};
 ghost use Prim.Native.Nat.{_<_, _≤_};
-ghost use lib.IntN.{pos, natAbs, _+ℤ_};
+ghost use lib.IntN.{_+ℤ_};
 ghost use Rattle.integers.specs.Range.{Within};
 ghost use Rattle.integers.specs.Sum.{sum};
-ghost use Rattle.model.specs.Job.{t-min, t-max, h-min, h-max, produces};
-ghost use Rattle.model.specs.Levels.{side};
+ghost use Rattle.model.specs.Job.{h-min};
+ghost use Rattle.model.specs.Standing.{SaneCage, Ranged};
+ghost use Rattle.model.specs.View.{side};
 ghost use Rattle.tables.specs.Board.{board};
-ghost use Rattle.levels.specs.Values.{reservoir-of, Ranged, Reserved};
-ghost use Rattle.rules.specs.Values.{lag-at, Lagged};
-ghost use Rattle.silence.specs.Calm.{reaches-early, floor-gain, floor-of, larger, spread-of, floored, calm, drain, deep, ordered, all-calm, lag-kept};
+ghost use Rattle.tables.specs.Job.{reservoir-of};
+ghost use Rattle.levels.specs.Values.{as-view, seen-by, Sighted};
+ghost use Rattle.rules.specs.Values.{Lagged};
+ghost use Rattle.silence.specs.Calm.{reaches-early, floor-gain, larger, spread-of, floored, calm, drain, deep, ordered, all-calm, lag-kept};
 
 // ---- rules 3 and 4
 
 // Does e's level reach the limit already with e at its earliest minute?
-pub fn reaches_early(
-    b: &[i32; 256],
-    n: usize,
-    c: Reservoir,
-    m: bool,
-    strict: bool,
-    e: usize,
-) -> bool
-    requires { ⌜ Ranged n (board (now b)) × Reserved (reservoir-of c) × (e < n) ⌝ }
-    ensures { λ r. ⌜ r ≡ reaches-early m strict n (reservoir-of c) (board (now (b .entry))) e ⌝ }
+pub fn reaches_early(b: &[i32; 256], view: View) -> bool
+    requires { ⌜ Sighted view (board (now b)) ⌝ }
+    ensures { λ r. ⌜ r ≡ reaches-early (as-view view) (seen-by view (board (now (b .entry)))) ⌝ }
 {
-    let u = t_min(b, e);
-    let v = t_max(b, e);
-    let d = side_reservoir(m, c);
-    let level = most_in(b, n, d, m, strict, e, u, u);
-    let low = d.low;
-    let ordered = no_later(u, v);
-    let reached = at_most(low, level);
+    let u = e_min(b, view);
+    let ordered = no_later(u, e_max(b, view));
+    let level = most_in(b, view, u, u);
+    let reached = at_most(view.limit, level);
     ordered & reached
 }
 
@@ -70,12 +64,12 @@ fn floor_gain(b: &[i32; 256], m: bool, u: Time, y: usize) -> Height
     kept(made & early | !made & gone, h)
 }
 
-// The opening stock and what all events add at least.
-fn floor_gains(b: &[i32; 256], n: usize, c: Reservoir, m: bool, u: Time) -> Height
-    requires { ⌜ Ranged n (board (now b)) × Reserved (reservoir-of c) ⌝ }
-    ensures { λ r. ⌜ r .0 ≡ c .initial .0 +ℤ sum n (floor-gain (side m (board (now (b .entry)))) (u .0)) ⌝ }
+// The opening stock q and what all events add at least.
+fn floor_gains(b: &[i32; 256], n: usize, q: Height, m: bool, u: Time) -> Height
+    requires { ⌜ Ranged n (board (now b)) × Within (q .0) 1000000 ⌝ }
+    ensures { λ r. ⌜ r .0 ≡ q .0 +ℤ sum n (floor-gain (side m (board (now (b .entry)))) (u .0)) ⌝ }
 {
-    let mut total = opening(c);
+    let mut total = q;
     let mut y: usize = 0;
     while y < n {
         let h = floor_gain(b, m, u, y);
@@ -85,30 +79,28 @@ fn floor_gains(b: &[i32; 256], n: usize, c: Reservoir, m: bool, u: Time) -> Heig
     total
 }
 
-// e's own amount where it takes.
-fn own_floor(b: &[i32; 256], m: bool, e: usize) -> Height
-    requires { ⌜ (e < 64) × Within (board (now b) e h-min) 9999 ⌝ }
-    ensures { λ r. ⌜ r .0 ≡ cond (produces (side m (board (now (b .entry))) e h-max)) (pos 0) (side m (board (now (b .entry))) e h-max) ⌝ }
+// What y takes at most.
+fn drain(b: &[i32; 256], m: bool, y: usize) -> Height
+    requires { ⌜ (y < 64) × Within (board (now b) y h-min) 9999 ⌝ }
+    ensures { λ r. ⌜ r .0 ≡ drain (side m (board (now (b .entry)))) y ⌝ }
 {
-    let h = side_h_max(b, m, e);
+    let h = side_h_max(b, m, y);
     if produces(h) { Height(0) } else { h }
 }
 
 // Does the floor lie over the limit by d?
 fn is_floored(b: &[i32; 256], n: usize, c: Reservoir, m: bool, e: usize, d: Height) -> bool
-    requires { ⌜ Ranged n (board (now b)) × Reserved (reservoir-of c) × (e < n) × Within (d .0) 20000 ⌝ }
+    requires { ⌜ Ranged n (board (now b)) × SaneCage (reservoir-of c) × (e < n) × Within (d .0) 20000 ⌝ }
     ensures { λ r. ⌜ r ≡ floored m n (reservoir-of c) (board (now (b .entry))) e (d .0) ⌝ }
 {
-    let s = side_reservoir(m, c);
-    let all = floor_gains(b, n, s, m, t_min(b, e));
-    let floor = plus(all, own_floor(b, m, e));
-    let low = s.low;
-    at_most(plus(low, d), floor)
+    let all = floor_gains(b, n, side_opening(m, c), m, t_min(b, e));
+    let floor = plus(all, drain(b, m, e));
+    at_most(plus(side_limit(m, c), d), floor)
 }
 
 // Does it do so on both sides?
 pub fn is_calm(b: &[i32; 256], n: usize, c: Reservoir, e: usize, d: Height) -> bool
-    requires { ⌜ Ranged n (board (now b)) × Reserved (reservoir-of c) × (e < n) × Within (d .0) 20000 ⌝ }
+    requires { ⌜ Ranged n (board (now b)) × SaneCage (reservoir-of c) × (e < n) × Within (d .0) 20000 ⌝ }
     ensures { λ r. ⌜ r ≡ calm n (reservoir-of c) (board (now (b .entry))) e (d .0) ⌝ }
 {
     if is_floored(b, n, c, false, e, d) {
@@ -122,15 +114,15 @@ pub fn is_calm(b: &[i32; 256], n: usize, c: Reservoir, e: usize, d: Height) -> b
 
 // ---- rules 3 to 14 at every event
 
-// The opening stock less all that events can take.
-fn drained(b: &[i32; 256], n: usize, c: Reservoir, m: bool) -> Height
-    requires { ⌜ Ranged n (board (now b)) × Reserved (reservoir-of c) ⌝ }
-    ensures { λ r. ⌜ r .0 ≡ c .initial .0 +ℤ sum n (drain (side m (board (now (b .entry))))) ⌝ }
+// The opening stock q less all that events can take.
+fn drained(b: &[i32; 256], n: usize, q: Height, m: bool) -> Height
+    requires { ⌜ Ranged n (board (now b)) × Within (q .0) 1000000 ⌝ }
+    ensures { λ r. ⌜ r .0 ≡ q .0 +ℤ sum n (drain (side m (board (now (b .entry))))) ⌝ }
 {
-    let mut total = opening(c);
+    let mut total = q;
     let mut y: usize = 0;
     while y < n {
-        let h = own_floor(b, m, y);
+        let h = drain(b, m, y);
         total = plus(total, h);
         y += 1;
     }
@@ -139,13 +131,11 @@ fn drained(b: &[i32; 256], n: usize, c: Reservoir, m: bool) -> Height
 
 // Does that lie over the limit by d?
 fn is_deep(b: &[i32; 256], n: usize, c: Reservoir, m: bool, d: Height) -> bool
-    requires { ⌜ Ranged n (board (now b)) × Reserved (reservoir-of c) × Within (d .0) 30000 ⌝ }
+    requires { ⌜ Ranged n (board (now b)) × SaneCage (reservoir-of c) × Within (d .0) 30000 ⌝ }
     ensures { λ r. ⌜ r ≡ deep m n (reservoir-of c) (board (now (b .entry))) (d .0) ⌝ }
 {
-    let s = side_reservoir(m, c);
-    let least = drained(b, n, s, m);
-    let low = s.low;
-    at_most(plus(low, d), least)
+    let least = drained(b, n, side_opening(m, c), m);
+    at_most(plus(side_limit(m, c), d), least)
 }
 
 // Does no event end before it begins?
@@ -165,7 +155,7 @@ fn are_ordered(b: &[i32; 256], n: usize) -> bool
 
 // Is every event calm, since even all that can be taken leaves the limits far off?
 pub fn are_calm(b: &[i32; 256], n: usize, c: Reservoir, d: Height) -> bool
-    requires { ⌜ Ranged n (board (now b)) × Reserved (reservoir-of c) × Within (d .0) 20000 ⌝ }
+    requires { ⌜ Ranged n (board (now b)) × SaneCage (reservoir-of c) × Within (d .0) 20000 ⌝ }
     ensures { λ r. ⌜ r ≡ all-calm n (reservoir-of c) (board (now (b .entry))) (d .0) ⌝ }
 {
     let reach = plus(d, Height(9999));
@@ -201,11 +191,7 @@ pub fn spread(b: &[i32; 256], n: usize) -> Height
 
 // Do rules 1 and 2 of lag g leave both windows as they are?
 pub fn is_kept(b: &[i32; 256], lags: &[i32], g: usize) -> bool
-    requires { ⌜
-        Lagged 64 (now lags) g
-        × Within (board (now b) (natAbs (lag-at (now lags) g 0)) t-min) 20000
-        × Within (board (now b) (natAbs (lag-at (now lags) g 1)) t-max) 20000
-        ⌝ }
+    requires { ⌜ Lagged (now lags) (board (now b)) g ⌝ }
     ensures { λ r. ⌜ r ≡ lag-kept (now (lags .entry)) (board (now (b .entry))) g ⌝ }
 {
     let first = lag_event(lags, g, 0);

@@ -1,14 +1,15 @@
 // What a level leaves over its limit, and whether a target of rules 5, 8, 11 and 14 can be moved by it.
+use levels::View;
 use levels::levels::minus;
 use levels::levels::most;
 use levels::places::ahead;
 use levels::places::at_most;
 use levels::places::produces;
 use levels::places::side_h_max;
-use levels::places::side_reservoir;
+use levels::views::e_max;
+use levels::views::e_min;
 use rules::bounds::is_target;
 use tables::Height;
-use tables::Reservoir;
 use tables::Time;
 use tables::h_max;
 use tables::h_min;
@@ -20,19 +21,18 @@ ghost use Prim.Native.Nat.{_<_, _≤_};
 ghost use lib.IntN.{_-ℤ_};
 ghost use Rattle.integers.specs.Range.{Within};
 ghost use Rattle.model.specs.Job.{h-min, h-max};
+ghost use Rattle.model.specs.Standing.{Ranged};
+ghost use Rattle.model.specs.View.{side};
 ghost use Rattle.tables.specs.Board.{board};
-ghost use Rattle.levels.specs.Values.{reservoir-of, Ranged, Reserved};
+ghost use Rattle.levels.specs.Values.{as-view, seen-by, Sighted};
 ghost use Rattle.silence.specs.Slack.{slack-of, spares, moves, may-move, count, some-move};
 
-// Most before (by) e less Lmin, on a side.
-pub fn slack(b: &[i32; 256], n: usize, c: Reservoir, m: bool, strict: bool, e: usize) -> Height
-    requires { ⌜ Ranged n (board (now b)) × Reserved (reservoir-of c) × (e < n) ⌝ }
-    ensures { λ r. ⌜ r .0 ≡ slack-of m strict n (reservoir-of c) (board (now (b .entry))) e ⌝ }
+// Most before (by) e less the limit.
+pub fn slack(b: &[i32; 256], view: View) -> Height
+    requires { ⌜ Sighted view (board (now b)) ⌝ }
+    ensures { λ r. ⌜ r .0 ≡ slack-of (as-view view) (seen-by view (board (now (b .entry)))) ⌝ }
 {
-    let d = side_reservoir(m, c);
-    let level = most(b, n, d, m, strict, e);
-    let low = d.low;
-    minus(level, low)
+    minus(most(b, view), view.limit)
 }
 
 // The width of y's amounts.
@@ -56,21 +56,21 @@ pub fn is_spared(b: &[i32; 256], y: usize, k: Height) -> bool
 }
 
 // Is y a target at e that the slack k does not spare?
-pub fn is_moved(b: &[i32; 256], m: bool, strict: bool, e: usize, k: Height, y: usize) -> bool
-    requires { ⌜ (e < 64) × (y < 64) × Within (board (now b) y h-min) 9999 × Within (board (now b) y h-max) 9999 ⌝ }
-    ensures { λ r. ⌜ r ≡ moves m strict (board (now (b .entry))) e (k .0) y ⌝ }
+pub fn is_moved(b: &[i32; 256], view: View, k: Height, y: usize) -> bool
+    requires { ⌜ (view .subject < 64) × (y < 64) × Within (board (now b) y h-min) 9999 × Within (board (now b) y h-max) 9999 ⌝ }
+    ensures { λ r. ⌜ r ≡ moves (as-view view) (seen-by view (board (now (b .entry)))) (board (now (b .entry))) (k .0) y ⌝ }
 {
     if is_spared(b, y, k) {
         false
     } else {
-        is_target(b, m, strict, e, y)
+        is_target(b, view, y)
     }
 }
 
-// The same of y as another event than e, whose time window is u..v; neutral events are let pass.
+// The same of y as another event than e, whose time window is u..v, on a side; neutral events are let pass.
 fn may_move(b: &[i32; 256], m: bool, strict: bool, u: Time, v: Time, k: Height, y: usize) -> bool
     requires { ⌜ (y < 64) × Within (board (now b) y h-min) 9999 × Within (board (now b) y h-max) 9999 ⌝ }
-    ensures { λ r. ⌜ r ≡ may-move m strict (board (now (b .entry))) (u .0) (v .0) (k .0) y ⌝ }
+    ensures { λ r. ⌜ r ≡ may-move strict (side m (board (now (b .entry)))) (board (now (b .entry))) (u .0) (v .0) (k .0) y ⌝ }
 {
     let surely = ahead(strict, t_max(b, y), u);
     let possibly = ahead(strict, t_min(b, y), v);
@@ -88,7 +88,10 @@ fn one(t: bool) -> u32
 // How many events, e taken for another event, may be moved: this loop has no branch and no test for e.
 fn tally_moves(b: &[i32; 256], n: usize, m: bool, strict: bool, u: Time, v: Time, k: Height) -> u32
     requires { ⌜ Ranged n (board (now b)) ⌝ }
-    ensures { λ r. ⌜ (r ≡ count n (may-move m strict (board (now (b .entry))) (u .0) (v .0) (k .0))) × (r ≤ 64) ⌝ }
+    ensures { λ r. ⌜
+        (r ≡ count n (may-move strict (side m (board (now (b .entry)))) (board (now (b .entry))) (u .0) (v .0) (k .0)))
+        × (r ≤ 64)
+        ⌝ }
 {
     let mut total: u32 = 0;
     let mut y: usize = 0;
@@ -100,19 +103,25 @@ fn tally_moves(b: &[i32; 256], n: usize, m: bool, strict: bool, u: Time, v: Time
     total
 }
 
-// The same, with the side and before or by as literals at the loop.
-fn count_moves(b: &[i32; 256], n: usize, m: bool, strict: bool, u: Time, v: Time, k: Height) -> u32
-    requires { ⌜ Ranged n (board (now b)) ⌝ }
-    ensures { λ r. ⌜ (r ≡ count n (may-move m strict (board (now (b .entry))) (u .0) (v .0) (k .0))) × (r ≤ 64) ⌝ }
+// The same in a view, with the side and before or by as literals at the loop.
+fn count_moves(b: &[i32; 256], view: View, u: Time, v: Time, k: Height) -> u32
+    requires { ⌜ Sighted view (board (now b)) ⌝ }
+    ensures { λ r. ⌜
+        (r
+        ≡ count (view .events)
+        (may-move (view .strict) (seen-by view (board (now (b .entry)))) (board (now (b .entry))) (u .0) (v .0) (k .0)))
+        × (r ≤ 64)
+        ⌝ }
 {
-    if m {
-        if strict {
+    let n = view.events;
+    if view.mirror {
+        if view.strict {
             tally_moves(b, n, true, true, u, v, k)
         } else {
             tally_moves(b, n, true, false, u, v, k)
         }
     } else {
-        if strict {
+        if view.strict {
             tally_moves(b, n, false, true, u, v, k)
         } else {
             tally_moves(b, n, false, false, u, v, k)
@@ -121,14 +130,16 @@ fn count_moves(b: &[i32; 256], n: usize, m: bool, strict: bool, u: Time, v: Time
 }
 
 // May some target at e be moved by the slack k?
-pub fn is_any_moved(b: &[i32; 256], n: usize, m: bool, strict: bool, e: usize, k: Height) -> bool
-    requires { ⌜ Ranged n (board (now b)) × (e < n) ⌝ }
-    ensures { λ r. ⌜ r ≡ some-move m strict n (board (now (b .entry))) e (k .0) ⌝ }
+pub fn is_any_moved(b: &[i32; 256], view: View, k: Height) -> bool
+    requires { ⌜ Sighted view (board (now b)) ⌝ }
+    ensures { λ r. ⌜ r ≡ some-move (as-view view) (seen-by view (board (now (b .entry)))) (board (now (b .entry))) (k .0) ⌝ }
 {
-    let u = t_min(b, e);
-    let v = t_max(b, e);
-    let all = count_moves(b, n, m, strict, u, v, k);
-    let own = one(may_move(b, m, strict, u, v, k, e));
+    let u = e_min(b, view);
+    let v = e_max(b, view);
+    let e = view.subject;
+    let strict = view.strict;
+    let all = count_moves(b, view, u, v, k);
+    let own = one(may_move(b, view.mirror, strict, u, v, k, e));
     let spared = is_spared(b, e, k);
     (own < all) | !strict & !spared
 }

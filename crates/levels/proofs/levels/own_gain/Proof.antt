@@ -1,7 +1,7 @@
 -- `levels::levels::own_gain` gives what e adds by e and not before. Assumes nothing.
 use Rattle.tables.specs.Board.{board}
 use Rattle.model.specs.Job.{h-max}
-use Rattle.model.specs.Levels.{side}
+use Rattle.model.specs.View.{side}
 use Rattle.levels.proofs.Adding.{own-all}
 use borrow.Author.Needs.{needs}
 use Rattle.levels.proofs.levels.own_gain.Statement.{statement}

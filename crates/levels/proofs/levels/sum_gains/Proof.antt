@@ -3,40 +3,35 @@ use mathlib.Core.Path.{_≡_}
 use Prim.Native.Nat.{_≤_, _-_}
 use native.Mathlib.Omega.{arith}
 use lib.IntN.{_+ℤ_}
-use Rattle.tables.specs.Board.{board}
 use Rattle.integers.specs.Sum.{sum}
+use Rattle.tables.specs.Board.{board}
 use Rattle.model.specs.Job.{h-min}
-use Rattle.model.specs.Levels.{side}
-use Rattle.model.specs.Rules.{switch}
+use Rattle.model.specs.View.{side}
 use Rattle.levels.specs.Values.{other-gains}
 use Rattle.levels.proofs.Adding.{wider, side-ranged, all-within, other-within, sum-none, sum-more}
 use Rattle.levels.proofs.levels.sum_gains.Statement.{statement}
 use Rattle.levels.proofs.levels.sum_gains.Tie as tie
 
 abbrev Inv-loop : tie.InvT-loop
-Inv-loop b n m strict u v total₀ y₀ total y = (y ≤ n) × (total .0 ≡ total₀ .0 +ℤ sum y (other-gains (switch strict) (side m (board b)) (u .0) (v .0)))
+Inv-loop b n m strict u v total₀ y₀ total y = (y ≤ n) × (total .0 ≡ total₀ .0 +ℤ sum y (other-gains (λ y. strict) (side m (board b)) (u .0) (v .0)))
 
 abbrev μ-loop : tie.MeasureT-loop
 μ-loop b n m strict u v total₀ y₀ total y = n - y
 
-opening-requires : tie.Need-opening-requires Inv-loop μ-loop
-opening-requires c κs = tt
-
 loop-holds : tie.Need-loop-holds Inv-loop μ-loop
-loop-holds c = let a = c .before .args in (omega arith, sum-none (c .opening .result .0) (other-gains (switch (a .strict)) (side (a .m) (board (a .b .now))) (a .u .0) (a .v .0)))
+loop-holds c = let a = c .args in (omega arith, sum-none (a .q .0) (other-gains (λ y. a .strict) (side (a .m) (board (a .b .now))) (a .u .0) (a .v .0)))
 
 other-gain-requires : tie.Need-other-gain-requires Inv-loop μ-loop
-other-gain-requires c κs = let s = c .before .before .before in (omega arith, s .pre .0 .range (c .before .loop .y) (omega arith) h-min)
+other-gain-requires c κs = let s = c .before .before in (omega arith, s .pre .0 .range (c .before .loop .y) (omega arith) h-min)
 
 plus-requires : tie.Need-plus-requires Inv-loop μ-loop
 plus-requires c κs =
-    let s = c .before .before .before .before in
+    let s = c .before .before .before in
     let a = s .args in
     let l = c .before .before .loop in
-    let r = side-ranged (a .m) (s .pre .0) in
-    let total = rw (c .before .before .before .opening .ensures) at (l .inv .1) in (
-      wider total (all-within (switch (a .strict)) (l .y) (a .u .0) (a .v .0) r (s .pre .1) (l .inv .0)) (omega arith),
-      wider (c .other-gain .ensures) (other-within (switch (a .strict)) (a .u .0) (a .v .0) (l .y) r (c .before .loop-test .taken)) (omega arith),
+    let r = side-ranged (a .m) (s .pre .0) in (
+      wider (l .inv .1) (all-within (λ y. a .strict) (l .y) (a .u .0) (a .v .0) r (s .pre .1) (l .inv .0)) (omega arith),
+      wider (c .other-gain .ensures) (other-within (λ y. a .strict) (a .u .0) (a .v .0) (l .y) r (c .before .loop-test .taken)) (omega arith),
     )
 
 add-y : tie.Need-add-y Inv-loop μ-loop
@@ -47,13 +42,12 @@ loop-less c = omega arith
 
 loop-again : tie.Need-loop-again Inv-loop μ-loop
 loop-again c =
-    let k = c .before .before .before .before in
-    let a = k .before .args in
+    let a = c .before .before .before .before .args in
     let l = c .before .before .before .loop in
-    (omega arith, sum-more (k .opening .result .0) (other-gains (switch (a .strict)) (side (a .m) (board (a .b .now))) (a .u .0) (a .v .0)) (l .y) (l .inv .1) (c .before .other-gain .ensures) (c .plus .ensures))
+    (omega arith, sum-more (a .q .0) (other-gains (λ y. a .strict) (side (a .m) (board (a .b .now))) (a .u .0) (a .v .0)) (l .y) (l .inv .1) (c .before .other-gain .ensures) (c .plus .ensures))
 
 returns : tie.Need-returns Inv-loop μ-loop
-returns c = let e : c .before .loop .y ≡ c .before .before .before .args .n = omega arith in rw (e, c .before .before .opening .ensures) at (c .before .loop .inv .1)
+returns c = let e : c .before .loop .y ≡ c .before .before .args .n = omega arith in rw e at (c .before .loop .inv .1)
 
 pub sum-gains-spec : {M : Type 1} → statement M
 sum-gains-spec =
@@ -61,7 +55,6 @@ sum-gains-spec =
     (tie.spec
     Inv-loop
     μ-loop
-    opening-requires
     loop-holds
     other-gain-requires
     plus-requires

@@ -1,8 +1,6 @@
 -- `rules::bounds::time_rule` asks for the earliest time where the sure part is below the limit. Assumes nothing.
 use Rattle.tables.specs.Board.{board}
-use Rattle.model.specs.Levels.{side}
-use Rattle.model.specs.Rules.{switch}
-use Rattle.levels.specs.Values.{reservoir-of}
+use Rattle.levels.specs.Values.{as-view, seen-by}
 use Rattle.rules.proofs.Bounding.{time-yes, time-no}
 use borrow.Author.Needs.{needs}
 use Rattle.rules.proofs.bounds.time_rule.Statement.{statement}
@@ -18,16 +16,10 @@ earliest-requires : tie.Need-earliest-requires
 earliest-requires c κs = search needs
 
 returns : tie.Need-returns
-returns c =
-    let k = c .before .before .before .before in
-    let a = k .before .args in
-    time-yes (switch (a .strict)) (a .n) (reservoir-of (a .c)) (side (a .m) (board (a .b .now))) (a .e) (k .sure-part .ensures) (c .before .before .below .ensures) (c .before .if1 .taken) (c .earliest .ensures)
+returns c = let a = c .before .before .before .before .args in time-yes (as-view (a .view)) (seen-by (a .view) (board (a .b .now))) (c .before .before .before .sure-part .ensures) (c .before .before .below .ensures) (c .before .if1 .taken) (c .earliest .ensures)
 
 returns-2 : tie.Need-returns-2
-returns-2 c =
-    let k = c .before .before .before in
-    let a = k .before .args in
-    time-no (switch (a .strict)) (a .n) (reservoir-of (a .c)) (side (a .m) (board (a .b .now))) (a .e) (k .sure-part .ensures) (c .before .below .ensures) (c .if1 .left)
+returns-2 c = let a = c .before .before .before .args in time-no (as-view (a .view)) (seen-by (a .view) (board (a .b .now))) (c .before .before .sure-part .ensures) (c .before .below .ensures) (c .if1 .left)
 
 pub time-rule-spec : {M : Type 1} → statement M
 time-rule-spec =

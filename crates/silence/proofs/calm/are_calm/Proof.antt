@@ -1,12 +1,8 @@
 -- `silence::calm::are_calm` tests both sides and the times of all events. Assumes nothing.
 use native.Mathlib.Omega.{arith}
-use lib.IntN.{pos}
 use Rattle.tables.specs.Board.{board}
-use Rattle.integers.specs.Range.{Within}
-use Rattle.integers.proofs.Linear.{ints, add-law}
-use Rattle.levels.specs.Values.{reservoir-of}
+use Rattle.tables.specs.Job.{reservoir-of}
 use Rattle.silence.proofs.Calming.{all-calm-at, reach-within}
-use borrow.Author.Needs.{needs}
 use Rattle.silence.proofs.calm.are_calm.Statement.{statement}
 use Rattle.silence.proofs.calm.are_calm.Tie as tie
 

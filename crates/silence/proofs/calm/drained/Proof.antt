@@ -3,12 +3,12 @@ use mathlib.Core.Path.{_≡_}
 use Prim.Native.Nat.{_≤_, _-_}
 use native.Mathlib.Omega.{arith}
 use lib.IntN.{_+ℤ_}
-use Rattle.tables.specs.Board.{board}
 use Rattle.integers.specs.Sum.{sum}
 use Rattle.model.specs.Job.{h-min}
-use Rattle.model.specs.Levels.{side}
-use Rattle.silence.specs.Calm.{drain}
+use Rattle.model.specs.View.{side}
+use Rattle.tables.specs.Board.{board}
 use Rattle.levels.proofs.Adding.{wider, side-ranged, sum-none, sum-more}
+use Rattle.silence.specs.Calm.{drain}
 use Rattle.silence.proofs.Calming.{drain-within, drains-within}
 use Rattle.silence.proofs.calm.drained.Statement.{statement}
 use Rattle.silence.proofs.calm.drained.Tie as tie
@@ -19,24 +19,20 @@ Inv-loop b n m total₀ y₀ total y = (y ≤ n) × (total .0 ≡ total₀ .0 +�
 abbrev μ-loop : tie.MeasureT-loop
 μ-loop b n m total₀ y₀ total y = n - y
 
-opening-requires : tie.Need-opening-requires Inv-loop μ-loop
-opening-requires c κs = tt
-
 loop-holds : tie.Need-loop-holds Inv-loop μ-loop
-loop-holds c = let a = c .before .args in (omega arith, sum-none (c .opening .result .0) (drain (side (a .m) (board (a .b .now)))))
+loop-holds c = let a = c .args in (omega arith, sum-none (a .q .0) (drain (side (a .m) (board (a .b .now)))))
 
-own-floor-requires : tie.Need-own-floor-requires Inv-loop μ-loop
-own-floor-requires c κs = let s = c .before .before .before in (omega arith, s .pre .0 .range (c .before .loop .y) (omega arith) h-min)
+drain-requires : tie.Need-drain-requires Inv-loop μ-loop
+drain-requires c κs = let s = c .before .before in (omega arith, s .pre .0 .range (c .before .loop .y) (omega arith) h-min)
 
 plus-requires : tie.Need-plus-requires Inv-loop μ-loop
 plus-requires c κs =
-    let s = c .before .before .before .before in
+    let s = c .before .before .before in
     let a = s .args in
     let l = c .before .before .loop in
-    let r = side-ranged (a .m) (s .pre .0) in
-    let total = rw (c .before .before .before .opening .ensures) at (l .inv .1) in (
-      wider total (drains-within (l .y) r (s .pre .1) (l .inv .0)) (omega arith),
-      wider (c .own-floor .ensures) (drain-within (l .y) r (c .before .loop-test .taken)) (omega arith),
+    let r = side-ranged (a .m) (s .pre .0) in (
+      wider (l .inv .1) (drains-within (l .y) r (s .pre .1) (l .inv .0)) (omega arith),
+      wider (c .drain .ensures) (drain-within (l .y) r (c .before .loop-test .taken)) (omega arith),
     )
 
 add-y : tie.Need-add-y Inv-loop μ-loop
@@ -47,12 +43,12 @@ loop-less c = omega arith
 
 loop-again : tie.Need-loop-again Inv-loop μ-loop
 loop-again c =
-    let a = c .before .before .before .before .before .args in
+    let a = c .before .before .before .before .args in
     let l = c .before .before .before .loop in
-    (omega arith, sum-more (c .before .before .before .before .opening .result .0) (drain (side (a .m) (board (a .b .now)))) (l .y) (l .inv .1) (c .before .own-floor .ensures) (c .plus .ensures))
+    (omega arith, sum-more (a .q .0) (drain (side (a .m) (board (a .b .now)))) (l .y) (l .inv .1) (c .before .drain .ensures) (c .plus .ensures))
 
 returns : tie.Need-returns Inv-loop μ-loop
-returns c = let e : c .before .loop .y ≡ c .before .before .before .args .n = omega arith in rw (e, c .before .before .opening .ensures) at (c .before .loop .inv .1)
+returns c = let e : c .before .loop .y ≡ c .before .before .args .n = omega arith in rw e at (c .before .loop .inv .1)
 
 pub drained-spec : {M : Type 1} → statement M
 drained-spec =
@@ -60,9 +56,8 @@ drained-spec =
     (tie.spec
     Inv-loop
     μ-loop
-    opening-requires
     loop-holds
-    own-floor-requires
+    drain-requires
     plus-requires
     add-y
     loop-less

@@ -3,12 +3,12 @@ use mathlib.Core.Path.{_≡_}
 use Prim.Native.Nat.{_≤_, _-_}
 use native.Mathlib.Omega.{arith}
 use lib.IntN.{_+ℤ_}
-use Rattle.tables.specs.Board.{board}
 use Rattle.integers.specs.Sum.{sum}
 use Rattle.model.specs.Job.{h-min}
-use Rattle.model.specs.Levels.{side}
-use Rattle.silence.specs.Calm.{floor-gain}
+use Rattle.model.specs.View.{side}
+use Rattle.tables.specs.Board.{board}
 use Rattle.levels.proofs.Adding.{wider, side-ranged, sum-none, sum-more}
+use Rattle.silence.specs.Calm.{floor-gain}
 use Rattle.silence.proofs.Calming.{floor-within, floors-within}
 use Rattle.silence.proofs.calm.floor_gains.Statement.{statement}
 use Rattle.silence.proofs.calm.floor_gains.Tie as tie
@@ -19,23 +19,19 @@ Inv-loop b n m u total₀ y₀ total y = (y ≤ n) × (total .0 ≡ total₀ .0 
 abbrev μ-loop : tie.MeasureT-loop
 μ-loop b n m u total₀ y₀ total y = n - y
 
-opening-requires : tie.Need-opening-requires Inv-loop μ-loop
-opening-requires c κs = tt
-
 loop-holds : tie.Need-loop-holds Inv-loop μ-loop
-loop-holds c = let a = c .before .args in (omega arith, sum-none (c .opening .result .0) (floor-gain (side (a .m) (board (a .b .now))) (a .u .0)))
+loop-holds c = let a = c .args in (omega arith, sum-none (a .q .0) (floor-gain (side (a .m) (board (a .b .now))) (a .u .0)))
 
 floor-gain-requires : tie.Need-floor-gain-requires Inv-loop μ-loop
-floor-gain-requires c κs = let s = c .before .before .before in (omega arith, s .pre .0 .range (c .before .loop .y) (omega arith) h-min)
+floor-gain-requires c κs = let s = c .before .before in (omega arith, s .pre .0 .range (c .before .loop .y) (omega arith) h-min)
 
 plus-requires : tie.Need-plus-requires Inv-loop μ-loop
 plus-requires c κs =
-    let s = c .before .before .before .before in
+    let s = c .before .before .before in
     let a = s .args in
     let l = c .before .before .loop in
-    let r = side-ranged (a .m) (s .pre .0) in
-    let total = rw (c .before .before .before .opening .ensures) at (l .inv .1) in (
-      wider total (floors-within (l .y) (a .u .0) r (s .pre .1) (l .inv .0)) (omega arith),
+    let r = side-ranged (a .m) (s .pre .0) in (
+      wider (l .inv .1) (floors-within (l .y) (a .u .0) r (s .pre .1) (l .inv .0)) (omega arith),
       wider (c .floor-gain .ensures) (floor-within (a .u .0) (l .y) r (c .before .loop-test .taken)) (omega arith),
     )
 
@@ -47,12 +43,12 @@ loop-less c = omega arith
 
 loop-again : tie.Need-loop-again Inv-loop μ-loop
 loop-again c =
-    let a = c .before .before .before .before .before .args in
+    let a = c .before .before .before .before .args in
     let l = c .before .before .before .loop in
-    (omega arith, sum-more (c .before .before .before .before .opening .result .0) (floor-gain (side (a .m) (board (a .b .now))) (a .u .0)) (l .y) (l .inv .1) (c .before .floor-gain .ensures) (c .plus .ensures))
+    (omega arith, sum-more (a .q .0) (floor-gain (side (a .m) (board (a .b .now))) (a .u .0)) (l .y) (l .inv .1) (c .before .floor-gain .ensures) (c .plus .ensures))
 
 returns : tie.Need-returns Inv-loop μ-loop
-returns c = let e : c .before .loop .y ≡ c .before .before .before .args .n = omega arith in rw (e, c .before .before .opening .ensures) at (c .before .loop .inv .1)
+returns c = let e : c .before .loop .y ≡ c .before .before .args .n = omega arith in rw e at (c .before .loop .inv .1)
 
 pub floor-gains-spec : {M : Type 1} → statement M
 floor-gains-spec =
@@ -60,7 +56,6 @@ floor-gains-spec =
     (tie.spec
     Inv-loop
     μ-loop
-    opening-requires
     loop-holds
     floor-gain-requires
     plus-requires

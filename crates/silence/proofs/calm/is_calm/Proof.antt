@@ -1,6 +1,6 @@
 -- `silence::calm::is_calm` tests the floors of both sides and e's times. Assumes nothing.
 use Rattle.tables.specs.Board.{board}
-use Rattle.levels.specs.Values.{reservoir-of}
+use Rattle.tables.specs.Job.{reservoir-of}
 use Rattle.silence.proofs.Calming.{calm-yes, calm-no}
 use borrow.Author.Needs.{needs}
 use Rattle.silence.proofs.calm.is_calm.Statement.{statement}

@@ -1,4 +1,6 @@
 -- `silence::slack::may_move` tests an event as another than e. Assumes nothing.
+use Rattle.tables.specs.Board.{board}
+use Rattle.silence.proofs.Sparing.{may-at}
 use borrow.Author.Needs.{needs}
 use Rattle.silence.proofs.slack.may_move.Statement.{statement}
 use Rattle.silence.proofs.slack.may_move.Tie as tie
@@ -25,7 +27,9 @@ is-spared-requires : tie.Need-is-spared-requires
 is-spared-requires c κs = search needs
 
 returns : tie.Need-returns
-returns c = cc
+returns c =
+    let a = c .before .before .before .before .before .before .before .args in
+    may-at (a .m) (a .strict) (board (a .b .now)) (a .u .0) (a .v .0) (a .k .0) (a .y) (c .before .before .before .before .before .before .t-max .ensures) (c .before .before .before .before .before .ahead .ensures) (c .before .before .before .before .t-min .ensures) (c .before .before .before .ahead2 .ensures) (c .before .before .side-h-max .ensures) (c .before .produces .ensures) (c .is-spared .ensures)
 
 pub may-move-spec : {M : Type 1} → statement M
 may-move-spec =

@@ -1,8 +1,8 @@
--- `silence::calm::own_floor` gives e's own amount where it takes. Assumes nothing.
+-- `silence::calm::drain` gives an event's amount where it takes. Assumes nothing.
 use Rattle.silence.proofs.Calming.{own-makes, own-takes}
 use borrow.Author.Needs.{needs}
-use Rattle.silence.proofs.calm.own_floor.Statement.{statement}
-use Rattle.silence.proofs.calm.own_floor.Tie as tie
+use Rattle.silence.proofs.calm.drain.Statement.{statement}
+use Rattle.silence.proofs.calm.drain.Tie as tie
 
 side-h-max-requires : tie.Need-side-h-max-requires
 side-h-max-requires c κs = search needs
@@ -16,5 +16,5 @@ returns c = own-makes (c .before .before .side-h-max .ensures) (c .before .produ
 returns-2 : tie.Need-returns-2
 returns-2 c = own-takes (c .before .before .side-h-max .ensures) (c .before .produces .ensures) (c .if1 .left)
 
-pub own-floor-spec : {M : Type 1} → statement M
-own-floor-spec = tie.close (tie.spec side-h-max-requires produces-requires returns returns-2)
+pub drain-spec : {M : Type 1} → statement M
+drain-spec = tie.close (tie.spec side-h-max-requires produces-requires returns returns-2)

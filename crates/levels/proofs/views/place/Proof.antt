@@ -1,9 +1,10 @@
--- `levels::places::place` gives y's place to e. Assumes nothing.
+-- `levels::views::place` gives y's place to e. Assumes nothing.
 use Rattle.tables.specs.Board.{board}
+use Rattle.levels.specs.Values.{as-view}
 use Rattle.levels.proofs.Placing.{placed-at}
 use borrow.Author.Needs.{needs}
-use Rattle.levels.proofs.places.place.Statement.{statement}
-use Rattle.levels.proofs.places.place.Tie as tie
+use Rattle.levels.proofs.views.place.Statement.{statement}
+use Rattle.levels.proofs.views.place.Tie as tie
 
 t-max-requires : tie.Need-t-max-requires
 t-max-requires c κs = search needs
@@ -22,9 +23,9 @@ placed-requires c κs = search needs
 
 returns : tie.Need-returns
 returns c =
-    let k = c .before .before .before .before in
+    let k = c .before .before .before .before .before in
     let a = k .before .args in
-    placed-at (a .strict) (board (a .b .now)) (a .e) (a .u .0) (a .v .0) (a .y) (k .t-max .ensures) (c .before .before .before .ahead .ensures) (c .before .before .t-min .ensures) (c .before .ahead2 .ensures) (c .placed .ensures)
+    placed-at (a .view .mirror) (as-view (a .view)) (board (a .b .now)) (a .u .0) (a .v .0) (a .y) (k .t-max .ensures) (c .before .before .before .before .ahead .ensures) (c .before .before .before .t-min .ensures) (c .before .before .ahead2 .ensures) (c .placed .ensures)
 
 pub place-spec : {M : Type 1} → statement M
 place-spec =
