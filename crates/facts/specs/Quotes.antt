@@ -1,92 +1,113 @@
--- The facts of a slip as the code holds them: which are quoted, by the struct made once for the slip, and the words written into a buffer.
+-- The facts of a slip as the code holds them: which are quoted and what is said of them, by the values made once for the slip.
 use mathlib.Core.Path.{_≡_}
-use mathlib.Core.Bool.{Bool, false, not, cond, _&&_, _||_}
+use mathlib.Core.Bool.{Bool, false, not, cond, _&&_}
 use mathlib.Core.List.{List}
-use Prim.Native.Nat.{ℕ}
+use Prim.Native.Nat.{ℕ, _<_}
 use lib.Dec.{T, eqb}
-use lib.IntN.{ℤ}
-use Rattle.model.specs.Job.{End, t-min, t-max, h-min, h-max, Windows, Reservoir}
-use Rattle.model.specs.Levels.{place, side, side-end, side-value}
-use Rattle.model.specs.Rules.{Family, level, time, height, switch, rule, targeted, Effect}
-use Rattle.model.specs.Facts.{any, left-out, surely-consumed, family-cites, family-says, quotes, quoted}
-use Rattle.model.specs.Reader.{is-narrowing}
-use Rattle.rules.specs.Values.{effect-of, job-of}
+use lib.IntN.{ℤ, pos, natAbs}
+use Rattle.model.specs.Job.{End, t-min, t-max, h-min, h-max, Windows, lag-word, Job as Call}
+use Rattle.model.specs.View.{side-end, side-value, View}
+use Rattle.model.specs.Levels.{place}
+use Rattle.model.specs.Rules.{Family, rule, targeted, Effect}
+use Rattle.model.specs.Facts.{any, late, early, family-cites, family-says, quotes, quoted}
+use Rattle.tables.specs.Job.{Holds}
+use Rattle.tables.specs.declared.Job.{Job}
+use Rattle.levels.specs.Values.{as-view, seen-by}
+use Rattle.levels.specs.declared.View.{View as Sight}
+use Rattle.rules.specs.Values.{effect-of}
 use Rattle.rules.specs.declared.Effect.{Effect as Done}
+use Rattle.facts.specs.declared.LagCiting.{LagCiting}
+use Rattle.facts.specs.declared.LevelCiting.{LevelCiting}
 use Rattle.facts.specs.declared.Citing.{Citing}
+use Rattle.facts.specs.declared.Citing.the-variants.{Lag, Level}
 use Rattle.facts.specs.declared.Others.{Others}
 use Rattle.facts.specs.declared.Quoted.{Quoted}
 
-module _ (strict : Bool) (W : Windows) (e : ℕ) (u v : ℤ) (y : ℕ) where
-  -- A delivery other than e that the level of e, whose time window is u..v, leaves out.
-  abbrev pub is-late : Bool
-  is-late = not (eqb y e) && left-out (place (switch strict) W e u v y) (W y h-max)
+-- ---- of one event
 
-  -- A pull other than e that it surely counts.
-  abbrev pub is-early : Bool
-  is-early = not (eqb y e) && surely-consumed (place (switch strict) W e u v y) (W y h-max)
-
--- Is event y such a pull, is it such a delivery?
-pub record Other (strict : Bool) (W : Windows) (e : ℕ) (u v : ℤ) (y : ℕ) (o : Others) : Type 0 where
-  pub early : o .early ≡ is-early strict W e u v y
-  pub late : o .late ≡ is-late strict W e u v y
+-- Is event y a pull other than e that the level of e, whose time window is u..v, surely counts; is it a delivery that it leaves out?
+pub record Other (E : View) (W : Windows) (u v : ℤ) (y : ℕ) (o : Others) : Type 0 where
+  pub early : o .early ≡ early E W u v y
+  pub late : o .late ≡ late E W u v y
 
 -- Is one of the first n events such a pull, is one such a delivery?
-pub record Any (n : ℕ) (strict : Bool) (W : Windows) (e : ℕ) (u v : ℤ) (o : Others) : Type 0 where
-  pub early : o .early ≡ any n (is-early strict W e u v)
-  pub late : o .late ≡ any n (is-late strict W e u v)
+pub record Any (n : ℕ) (E : View) (W : Windows) (u v : ℤ) (o : Others) : Type 0 where
+  pub early : o .early ≡ any n (early E W u v)
+  pub late : o .late ≡ any n (late E W u v)
 
-module _ (q : Citing) (W : Windows) (z : ℕ) where
-  -- Is the amount of event z quoted?
-  abbrev pub cites-height : Bool
-  cites-height =
-      q .level
-      && (not (q .spares && eqb z (q .target))
-      && targeted (place (switch (q .strict)) (side (q .mirror) W) (q .lower) (q .from .0) (q .to .0) z) (side (q .mirror) W z h-max))
+-- ---- of a slip
 
-  -- Is the end k of event z quoted?
-  abbrev pub cites-of : End → Bool
-  cites-of t-min =
-      (eqb z (q .lower) && q .starts)
-      || (q .level && is-late (q .strict) (side (q .mirror) W) (q .lower) (q .from .0) (q .to .0) z)
-  cites-of t-max =
-      (eqb z (q .upper) && q .ends)
-      || (q .level && is-early (q .strict) (side (q .mirror) W) (q .lower) (q .from .0) (q .to .0) z)
-  cites-of h-min = q .mirror && cites-height
-  cites-of h-max = not (q .mirror) && cites-height
+-- A lag's: does it quote the end k of event z, and what does it say of it?
+abbrev pub lag-cited : LagCiting → ℕ → End → Bool
+lag-cited c z t-min = c .starts && eqb z (c .a)
+lag-cited c z t-max = c .ends && eqb z (c .b)
+lag-cited c z h-min = false
+lag-cited c z h-max = false
 
-  -- What is said of it.
-  abbrev pub says-of : End → ℤ
-  says-of t-min = cond (eqb z (q .lower)) (q .from .0) (q .after .0)
-  says-of t-max = cond (eqb z (q .upper)) (q .to .0) (q .until .0)
-  says-of h-min = W z h-min
-  says-of h-max = W z h-max
+abbrev pub lag-said : LagCiting → ℕ → End → ℤ
+lag-said c z t-min = c .from .0
+lag-said c z t-max = c .to .0
+lag-said c z h-min = pos 0
+lag-said c z h-max = pos 0
 
--- Rules 5 and 11 leave the target's h out where they narrow it.
-abbrev pub spared : Family → Effect → Bool
-spared level x = false
-spared time x = false
-spared height x = is-narrowing x
+-- A reservoir rule's.
+module _ (c : LevelCiting) (W : Windows) (z : ℕ) where
+  abbrev pub height-cited : Bool
+  height-cited =
+      not (c .spares && eqb z (c .target))
+      && targeted (place (as-view (c .view)) (seen-by (c .view) W) (c .from .0) (c .to .0) z) (seen-by (c .view) W z h-max)
 
--- q decides the facts of a slip of a reservoir rule: on a side, before (strict) or by, of a family.
-pub record FamilyCites (n : ℕ) (m strict : Bool) (f : Family) (W : Windows) (e y : ℕ) (x : Effect) (q : Citing) : Type 0 where
-  pub cites : (z : ℕ) (k : End) → cites-of q W z k ≡ family-cites f (switch strict) n (side m W) e y x z (side-end m k)
-  pub says : (z : ℕ) (k : End) → says-of q W z k ≡ side-value m k (family-says f (switch strict) n (side m W) e y x z (side-end m k))
+  abbrev pub level-cited : End → Bool
+  level-cited t-min =
+      cond (eqb z (c .view .subject)) (c .starts) (late (as-view (c .view)) (seen-by (c .view) W) (c .from .0) (c .to .0) z)
+  level-cited t-max =
+      cond (eqb z (c .view .subject)) (c .ends) (early (as-view (c .view)) (seen-by (c .view) W) (c .from .0) (c .to .0) z)
+  level-cited h-min = c .view .mirror && height-cited
+  level-cited h-max = not (c .view .mirror) && height-cited
 
--- q decides the facts of a slip of a lag: t ≥ of a and t ≤ of b.
-pub record LagCites (starts ends : Bool) (a b : ℕ) (W : Windows) (q : Citing) : Type 0 where
-  pub lower : (z : ℕ) → cites-of q W z t-min ≡ (starts && eqb z a)
-  pub upper : (z : ℕ) → cites-of q W z t-max ≡ (ends && eqb z b)
-  pub low : (z : ℕ) → cites-of q W z h-min ≡ false
-  pub high : (z : ℕ) → cites-of q W z h-max ≡ false
-  pub says : (z : ℕ) (k : End) → T (cites-of q W z k) → says-of q W z k ≡ W z k
+  abbrev pub level-said : End → ℤ
+  level-said t-min = cond (eqb z (c .view .subject)) (c .from .0) (c .after .0)
+  level-said t-max = cond (eqb z (c .view .subject)) (c .to .0) (c .until .0)
+  level-said h-min = W z h-min
+  level-said h-max = W z h-max
 
--- q decides the facts of the slip of rule r with subject e, target y and effect x, whatever the horizon.
-pub record Cites (lags : List ℤ) (n : ℕ) (c : Reservoir) (W : Windows) (r e y : ℕ) (x : Done) (q : Citing) : Type 0 where
-  pub cites : (h : ℤ) (z : ℕ) (k : End) → cites-of q W z k ≡ quotes (rule r) (job-of h c n lags) W e y (effect-of x) z k
-  pub says : (h : ℤ) (z : ℕ) (k : End) → T (cites-of q W z k) → says-of q W z k ≡ quoted (rule r) (job-of h c n lags) W e y (effect-of x) z k
+abbrev pub cites-of : Citing → Windows → ℕ → End → Bool
+cites-of (Lag c) W z k = lag-cited c z k
+cites-of (Level c) W z k = level-cited c W z k
 
--- Which facts of event z are quoted.
-pub record Quotes (q : Citing) (W : Windows) (z : ℕ) (f : Quoted) : Type 0 where
-  pub lower : f .lower ≡ cites-of q W z t-min
-  pub upper : f .upper ≡ cites-of q W z t-max
-  pub height : f .height ≡ cites-height q W z
+abbrev pub says-of : Citing → Windows → ℕ → End → ℤ
+says-of (Lag c) W z k = lag-said c z k
+says-of (Level c) W z k = level-said c W z k
+
+-- The events of a lag's slip are events of n.
+abbrev pub Known : ℕ → Citing → Type 0
+Known n (Lag c) = (c .a < n) × (c .b < n)
+Known n (Level c) = Unit {0}
+
+-- ---- of a rule
+
+-- c decides the facts of a slip of lag g.
+pub record LagCites (starts ends : Bool) (ws : List ℤ) (g : ℕ) (W : Windows) (c : LagCiting) : Type 0 where
+  pub a-is : c .a ≡ natAbs (lag-word ws g 0)
+  pub b-is : c .b ≡ natAbs (lag-word ws g 1)
+  pub from-is : c .from .0 ≡ W (c .a) t-min
+  pub to-is : c .to .0 ≡ W (c .b) t-max
+  pub starts-is : c .starts ≡ starts
+  pub ends-is : c .ends ≡ ends
+
+-- c decides the facts of a slip of a family of reservoir rules in a view.
+pub record LevelCites (f : Family) (v : Sight) (W : Windows) (y : ℕ) (x : Effect) (c : LevelCiting) : Type 0 where
+  pub cites : (z : ℕ) (k : End) → level-cited c W z k ≡ family-cites f (as-view v) (seen-by v W) y x z (side-end (v .mirror) k)
+  pub says : (z : ℕ) (k : End) → level-said c W z k ≡ side-value (v .mirror) k (family-says f (as-view v) (seen-by v W) x z (side-end (v .mirror) k))
+
+-- c decides the facts of the slip of rule r with subject e, target y and effect x.
+pub record Cites (k : Job) (ws : List ℤ) (W : Windows) (r e y : ℕ) (x : Done) (c : Citing) : Type 0 where
+  pub known : Known (k .events) c
+  pub cites : (j : Call) → Holds k ws j → (z : ℕ) (l : End) → cites-of c W z l ≡ quotes (rule r) j W e y (effect-of x) z l
+  pub says : (j : Call) → Holds k ws j → (z : ℕ) (l : End) → T (cites-of c W z l) → says-of c W z l ≡ quoted (rule r) j W e y (effect-of x) z l
+
+-- Which facts of event z a reservoir rule's slip quotes.
+pub record Quotes (c : LevelCiting) (W : Windows) (z : ℕ) (f : Quoted) : Type 0 where
+  pub lower : f .lower ≡ level-cited c W z t-min
+  pub upper : f .upper ≡ level-cited c W z t-max
+  pub height : f .height ≡ height-cited c W z

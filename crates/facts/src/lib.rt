@@ -1,26 +1,38 @@
 // Which facts a slip quotes and what it says of them.
 pub mod premises; // premises.rt: the facts of one slip, decided once
 
+use levels::View;
 use tables::Time;
 
-// What decides the facts of one slip, made once. A lag's slip (level false) quotes at most t ≥ of `lower` and t ≤ of `upper`, its events a and b.
-// A reservoir rule's: both are e, whose time window is from..to; deliveries left out come no earlier than `after`, sure pulls no later than `until`.
-pub struct Citing {
-    pub level: bool,
-    pub mirror: bool,
-    pub strict: bool,
-    pub lower: usize,
-    pub upper: usize,
+// What decides the facts of a lag's slip: is t ≥ of its event a quoted, with t_min(a) for its value; is t ≤ of b, with t_max(b)?
+pub struct LagCiting {
+    pub a: usize,
+    pub b: usize,
+    pub from: Time,
+    pub to: Time,
+    pub starts: bool,
+    pub ends: bool,
+}
+
+// What decides the facts of a reservoir rule's slip, in its view: e's time window is from..to; deliveries left out come no earlier than `after`, sure pulls no later than `until`.
+pub struct LevelCiting {
+    pub view: View,
     pub from: Time,
     pub to: Time,
     pub after: Time,
     pub until: Time,
-    // are t ≥ of `lower` and t ≤ of `upper` quoted?
+    // are t ≥ and t ≤ of e quoted?
     pub starts: bool,
     pub ends: bool,
     // is the target's h left out?
     pub spares: bool,
     pub target: usize,
+}
+
+// What decides the facts of one slip, made once.
+pub enum Citing {
+    Lag(LagCiting),
+    Level(LevelCiting),
 }
 
 // Of events other than e: is one a pull that e's level surely counts, is one a delivery that it leaves out?

@@ -1,39 +1,45 @@
 // Which facts a slip quotes and what it says of them.
 use crate::Citing;
+use crate::LagCiting;
+use crate::LevelCiting;
 use crate::Others;
 use crate::Quoted;
 use levels::Place;
+use levels::View;
 use levels::places::consumes;
 use levels::places::minute_after;
 use levels::places::minute_before;
-use levels::places::place;
 use levels::places::produces;
-use levels::places::side_h_max;
+use levels::views::e_max;
+use levels::views::e_min;
+use levels::views::place;
+use levels::views::seen_h_max;
 use rules::Effect;
-use rules::Variant;
 use rules::bounds::targeted;
-use rules::findings::variant;
+use rules::effects::has_failed;
+use rules::effects::has_narrowed;
 use rules::lags::lag_event;
+use rules::numbers::rule_view;
+use rules::numbers::variant;
 use tables::Height;
-use tables::Reservoir;
+use tables::Job;
 use tables::Time;
+use tables::Word;
 use tables::t_max;
 use tables::t_min;
 ghost use mathlib.Core.Path.{_≡_};
-ghost use mathlib.Core.Bool.{true, _||_};
+ghost use mathlib.Core.Bool.{_||_};
 ghost use Prim.Native.Nat.{_<_};
-ghost use lib.Dec.{T};
-ghost use lib.IntN.{ℤ, natAbs};
+ghost use lib.IntN.{ℤ};
 ghost use Rattle.integers.specs.Range.{Within};
 ghost use Rattle.model.specs.Job.{h-min};
-ghost use Rattle.model.specs.Levels.{side};
-ghost use Rattle.model.specs.Rules.{failed, narrows, time};
-ghost use Rattle.model.specs.Facts.{first-late, last-early, left-out, surely-consumed, latest, quotes-top};
-ghost use Rattle.model.specs.Reader.{is-narrowing};
+ghost use Rattle.model.specs.Standing.{Ranged};
+ghost use Rattle.model.specs.Rules.{narrows, time};
+ghost use Rattle.model.specs.Facts.{first-late, last-early, left-out, surely-consumed, latest, quotes-top, spares};
 ghost use Rattle.tables.specs.Board.{board};
-ghost use Rattle.levels.specs.Values.{place-of, reservoir-of, Ranged};
-ghost use Rattle.rules.specs.Values.{family-of, effect-of, suits, lag-at, Lagged, Put, Does};
-ghost use Rattle.facts.specs.Quotes.{Other, Any, spared, FamilyCites, LagCites, Cites, Quotes};
+ghost use Rattle.levels.specs.Values.{place-of, as-view, seen-by};
+ghost use Rattle.rules.specs.Values.{family-of, effect-of, Lagged, Tries, Does};
+ghost use Rattle.facts.specs.Quotes.{Other, Any, LevelCites, LagCites, Cites, Quotes};
 
 // ---- the tests for one event
 
@@ -53,16 +59,16 @@ pub fn surely_consumed(p: Place, h: Height) -> bool
     p.sure & taken
 }
 
-// Is y another event than e, and a pull that e's level surely counts, or a delivery that it leaves out?
-pub fn other(b: &[i32; 256], m: bool, strict: bool, e: usize, u: Time, v: Time, y: usize) -> Others
+// Is y another event than e, and a pull that e's level surely counts, or a delivery that it leaves out? e's time window is u..v.
+pub fn other(b: &[i32; 256], view: View, u: Time, v: Time, y: usize) -> Others
     requires { ⌜ (y < 64) × Within (board (now b) y h-min) 9999 ⌝ }
-    ensures { λ r. ⌜ Other strict (side m (board (now (b .entry)))) e (u .0) (v .0) y r ⌝ }
+    ensures { λ r. ⌜ Other (as-view view) (seen-by view (board (now (b .entry)))) (u .0) (v .0) y r ⌝ }
 {
-    let p = place(b, strict, e, u, v, y);
-    let h = side_h_max(b, m, y);
+    let p = place(b, view, u, v, y);
+    let h = seen_h_max(b, view, y);
     let taken = surely_consumed(p, h);
     let out = left_out(p, h);
-    let another = y != e;
+    let another = y != view.subject;
     Others {
         early: another & taken,
         late: another & out,
@@ -79,17 +85,18 @@ fn either(a: Others, b: Others) -> Others
 }
 
 // Is one of the events such a pull, is one such a delivery?
-pub fn others(b: &[i32; 256], n: usize, m: bool, strict: bool, e: usize, u: Time, v: Time) -> Others
-    requires { ⌜ Ranged n (board (now b)) ⌝ }
-    ensures { λ r. ⌜ Any n strict (side m (board (now (b .entry)))) e (u .0) (v .0) r ⌝ }
+pub fn others(b: &[i32; 256], view: View, u: Time, v: Time) -> Others
+    requires { ⌜ Ranged (view .events) (board (now b)) ⌝ }
+    ensures { λ r. ⌜ Any (view .events) (as-view view) (seen-by view (board (now (b .entry)))) (u .0) (v .0) r ⌝ }
 {
     let mut found = Others {
         early: false,
         late: false,
     };
+    let n = view.events;
     let mut y: usize = 0;
     while y < n {
-        let one = other(b, m, strict, e, u, v, y);
+        let one = other(b, view, u, v, y);
         found = either(found, one);
         y += 1;
     }
@@ -116,45 +123,27 @@ fn last_early(strict: bool, u: Time) -> Time
 
 // ---- what the effect decides
 
-// Is it a conflict?
-pub fn has_failed(x: Effect) -> bool
-    ensures { λ r. ⌜ r ≡ failed (effect-of x) ⌝ }
+// A word that is a time.
+fn as_time(w: Word) -> Time
+    ensures { λ t. ⌜ t .0 ≡ w .0 ⌝ }
 {
-    match x {
-        Effect::Idle => false,
-        Effect::NarrowsTime(_) => false,
-        Effect::NarrowsHeight(_) => false,
-        Effect::Fails => true,
-    }
-}
-
-// Is it a new end?
-pub fn has_narrowed(x: Effect) -> bool
-    ensures { λ r. ⌜ r ≡ is-narrowing (effect-of x) ⌝ }
-{
-    match x {
-        Effect::Idle => false,
-        Effect::NarrowsTime(_) => true,
-        Effect::NarrowsHeight(_) => true,
-        Effect::Fails => false,
-    }
+    Time(w.0)
 }
 
 // e's latest time that a slip of the time rule goes by: with bound v, v − 1.
 fn latest(t: Time, x: Effect) -> Time
-    requires { ⌜ T (suits true x) × ((v : ℤ) → effect-of x ≡ narrows v → Within v 20000) ⌝ }
+    requires { ⌜ ((v : ℤ) → effect-of x ≡ narrows v → Within v 20000) ⌝ }
     ensures { λ r. ⌜ r .0 ≡ latest time (t .0) (effect-of x) ⌝ }
 {
     match x {
         Effect::Idle => t,
-        Effect::NarrowsTime(v) => minute_before(v),
-        Effect::NarrowsHeight(_) => t,
+        Effect::Narrows(v) => minute_before(as_time(v)),
         Effect::Fails => t,
     }
 }
 
 fn family_latest(family: usize, t: Time, x: Effect) -> Time
-    requires { ⌜ (family ≡ 1 → T (suits true x)) × ((v : ℤ) → effect-of x ≡ narrows v → Within v 20000) ⌝ }
+    requires { ⌜ ((v : ℤ) → effect-of x ≡ narrows v → Within v 20000) ⌝ }
     ensures { λ r. ⌜ r .0 ≡ latest (family-of family) (t .0) (effect-of x) ⌝ }
 {
     if family == 1 { latest(t, x) } else { t }
@@ -169,39 +158,32 @@ fn quotes_top(family: usize) -> bool
 
 // Is the target's h left out?
 fn spares(family: usize, x: Effect) -> bool
-    ensures { λ r. ⌜ r ≡ spared (family-of family) (effect-of x) ⌝ }
+    ensures { λ r. ⌜ r ≡ spares (family-of family) (effect-of x) ⌝ }
 {
     if family < 2 { false } else { has_narrowed(x) }
 }
 
 // ---- one slip's facts
 
-fn level_citing(b: &[i32; 256], n: usize, k: Variant, e: usize, y: usize, x: Effect) -> Citing
+// Of a family of reservoir rules with target y and effect x, in a view.
+fn level_citing(b: &[i32; 256], view: View, family: usize, y: usize, x: Effect) -> LevelCiting
     requires { ⌜
-        Ranged n (board (now b))
-        × (e < n)
-        × (k .family ≡ 1 → T (suits true x))
+        Ranged (view .events) (board (now b))
+        × (view .subject < view .events)
         × ((v : ℤ) → effect-of x ≡ narrows v → Within v 20000)
         ⌝ }
-    ensures { λ q. ⌜ FamilyCites n (k .mirror) (k .strict) (family-of (k .family)) (board (now (b .entry))) e y (effect-of x) q ⌝ }
+    ensures { λ c. ⌜ LevelCites (family-of family) view (board (now (b .entry))) y (effect-of x) c ⌝ }
 {
-    let m = k.mirror;
-    let strict = k.strict;
-    let family = k.family;
-    let from = t_min(b, e);
-    let to = family_latest(family, t_max(b, e), x);
-    let o = others(b, n, m, strict, e, from, to);
+    let from = e_min(b, view);
+    let to = family_latest(family, e_max(b, view), x);
+    let o = others(b, view, from, to);
     let top = quotes_top(family);
-    Citing {
-        level: true,
-        mirror: m,
-        strict: strict,
-        lower: e,
-        upper: e,
+    LevelCiting {
+        view: view,
         from: from,
         to: to,
-        after: first_late(strict, to),
-        until: last_early(strict, from),
+        after: first_late(view.strict, to),
+        until: last_early(view.strict, from),
         starts: o.early,
         ends: top & o.late,
         spares: spares(family, x),
@@ -209,28 +191,20 @@ fn level_citing(b: &[i32; 256], n: usize, k: Variant, e: usize, y: usize, x: Eff
     }
 }
 
-fn lag_citing(b: &[i32; 256], lags: &[i32], g: usize, starts: bool, ends: bool) -> Citing
-    requires { ⌜ Lagged 64 (now lags) g ⌝ }
-    ensures { λ q. ⌜ LagCites starts ends (natAbs (lag-at (now (lags .entry)) g 0)) (natAbs (lag-at (now (lags .entry)) g 1)) (board (now (b .entry))) q ⌝ }
+// Of lag g: are t ≥ of a and t ≤ of b quoted?
+fn lag_citing(b: &[i32; 256], lags: &[i32], g: usize, starts: bool, ends: bool) -> LagCiting
+    requires { ⌜ Lagged (now lags) (board (now b)) g ⌝ }
+    ensures { λ c. ⌜ LagCites starts ends (now (lags .entry)) g (board (now (b .entry))) c ⌝ }
 {
-    let lower = lag_event(lags, g, 0);
-    let upper = lag_event(lags, g, 1);
-    let from = t_min(b, lower);
-    let to = t_max(b, upper);
-    Citing {
-        level: false,
-        mirror: false,
-        strict: false,
-        lower: lower,
-        upper: upper,
-        from: from,
-        to: to,
-        after: from,
-        until: to,
+    let first = lag_event(lags, g, 0);
+    let second = lag_event(lags, g, 1);
+    LagCiting {
+        a: first,
+        b: second,
+        from: t_min(b, first),
+        to: t_max(b, second),
         starts: starts,
         ends: ends,
-        spares: false,
-        target: 0,
     }
 }
 
@@ -238,46 +212,41 @@ fn lag_citing(b: &[i32; 256], lags: &[i32], g: usize, starts: bool, ends: bool) 
 pub fn citing(
     b: &[i32; 256],
     lags: &[i32],
-    n: usize,
-    c: Reservoir,
+    k: Job,
     r: usize,
     e: usize,
     y: usize,
     x: Effect,
 ) -> Citing
-    requires { ⌜
-        Put (now lags) n (reservoir-of c) (board (now b)) r e y
-        × Does (now lags) n (reservoir-of c) (board (now b)) r e y x
-        ⌝ }
-    ensures { λ q. ⌜ Cites (now (lags .entry)) n (reservoir-of c) (board (now (b .entry))) r e y x q ⌝ }
+    requires { ⌜ Tries k (now lags) (board (now b)) r e y × Does k (now lags) (board (now b)) r e y x ⌝ }
+    ensures { λ c. ⌜ Cites k (now (lags .entry)) (board (now (b .entry))) r e y x c ⌝ }
 {
     if r == 1 {
-        return lag_citing(b, lags, e, has_failed(x), true);
+        return Citing::Lag(lag_citing(b, lags, e, has_failed(x), true));
     }
     if r == 2 {
-        return lag_citing(b, lags, e, true, has_failed(x));
+        return Citing::Lag(lag_citing(b, lags, e, true, has_failed(x)));
     }
-    level_citing(b, n, variant(r), e, y, x)
+    let v = variant(r);
+    Citing::Level(level_citing(b, rule_view(k, v, e), v.family, y, x))
 }
 
-// Which facts of event z the slip quotes.
-pub fn quoted(b: &[i32; 256], q: Citing, z: usize) -> Quoted
+// Which facts of event z a reservoir rule's slip quotes.
+pub fn quoted(b: &[i32; 256], c: LevelCiting, z: usize) -> Quoted
     requires { ⌜ (z < 64) × Within (board (now b) z h-min) 9999 ⌝ }
-    ensures { λ f. ⌜ Quotes q (board (now (b .entry))) z f ⌝ }
+    ensures { λ f. ⌜ Quotes c (board (now (b .entry))) z f ⌝ }
 {
-    let m = q.mirror;
-    let e = q.lower;
-    let target = q.target;
-    let upper = q.upper;
-    let p = place(b, q.strict, e, q.from, q.to, z);
-    let h = side_h_max(b, m, z);
+    let view = c.view;
+    let target = c.target;
+    let p = place(b, view, c.from, c.to, z);
+    let h = seen_h_max(b, view, z);
     let taken = surely_consumed(p, h);
     let out = left_out(p, h);
     let counted = targeted(p, h);
-    let own = z == e;
+    let own = z == view.subject;
     Quoted {
-        lower: own & q.starts | q.level & (!own & out),
-        upper: (z == upper) & q.ends | q.level & (!own & taken),
-        height: q.level & (!(q.spares & (z == target)) & counted),
+        lower: own & c.starts | !own & out,
+        upper: own & c.ends | !own & taken,
+        height: !(c.spares & (z == target)) & counted,
     }
 }

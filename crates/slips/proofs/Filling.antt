@@ -1,35 +1,42 @@
 -- A slip's facts counted and appended to a buffer, as `slips::writing` does it.
 -- Assumes nothing.
 use mathlib.Core.Path.{_≡_, refl, sym, ap, ap₂, subst, _∙_}
-use mathlib.Core.Bool.{Bool, true, false, not, cond, _&&_, _||_}
+use mathlib.Core.Bool.{Bool, true, false, not, cond, _&&_}
 use mathlib.Core.List.{List, [], _∷_, _++_, append-assoc, append-nil}
+use mathlib.Core.Logic.{⊎-elim}
 use Prim.Native.Nat.{ℕ, zero, suc, _+_, _*_, _-_, _<_, _≤_}
+use native.Mathlib.Nat.{eq-or-lt-of-le}
 use native.Mathlib.Omega.{arith}
 use native.Mathlib.Numerals.{add-one}
-use borrow.Author.Tests.{eq-eqb, ne-eqb}
-use lib.Dec.{T, eqb}
+use borrow.Author.Tests.{eq-eqb, ne-eqb, le-leb, lt-leb}
+use lib.Dec.{T, eqb, leb, leb→le, nleb→lt}
 use lib.IntN.{ℤ, pos}
 use lib.ListN.{length, take, set, length-append, length-set}
 use mir.Val.{boolByte}
 use lib.Seq.{take-suc-set, drop-set-lt, drop-drop}
-use Rattle.model.specs.Job.{End, t-min, t-max, h-min, h-max, Windows, Reservoir}
+use Rattle.integers.proofs.Tests.{decide}
+use Rattle.model.specs.Job.{End, t-min, t-max, h-min, h-max, Windows, Job as Call, events}
 use Rattle.model.specs.Rules.{rule}
 use Rattle.model.specs.Facts.{quotes, quoted}
-use Rattle.model.specs.Slips.{Premise, number, premise-words, quote, premise-list}
-use Rattle.facts.specs.Quotes.{cites-height, cites-of, says-of, Cites}
-use Rattle.slips.specs.Words.{words-if, premises-of, Appended}
-use Rattle.rules.specs.Values.{effect-of, job-of}
+use Rattle.model.specs.Slips.{Premise, number, end, premise-words, quote, premise-list}
+use Rattle.tables.specs.Job.{Holds}
+use Rattle.tables.specs.declared.Job.{Job}
+use Rattle.rules.specs.Values.{effect-of}
 use Rattle.rules.specs.declared.Effect.{Effect as Done}
+use Rattle.facts.specs.Quotes.{lag-cited, lag-said, height-cited, level-cited, level-said, cites-of, says-of, Cites}
+use Rattle.facts.specs.declared.LagCiting.{LagCiting}
+use Rattle.facts.specs.declared.LevelCiting.{LevelCiting}
 use Rattle.facts.specs.declared.Citing.{Citing}
+use Rattle.slips.specs.Words.{words-if, premises-of, lag-words, Appended}
 
 -- ---- counts
 pub byte-is : (b : Bool) → (boolByte b ≡ cond b 1 0) × (boolByte b ≤ 1)
 byte-is true = (refl, omega arith)
 byte-is false = (refl, omega arith)
 
-pub kind-small : (m : Bool) → cond m 3 4 < 5
-kind-small true = omega arith
-kind-small false = omega arith
+pub kind-range : (m : Bool) → (1 ≤ cond m 3 4) × (cond m 3 4 ≤ 4)
+kind-range true = (omega arith, omega arith)
+kind-range false = (omega arith, omega arith)
 
 -- The room for three facts is room for the first, then for the second, then for the third.
 module _ (at n : ℕ) (l u t : Bool) {k : ℕ} (room : at + 3 * k ≤ n) (count : k ≡ cond l 1 0 + cond u 1 0 + cond t 1 0) where
@@ -66,9 +73,9 @@ appended-both {at} {i} {j} {xs} {ys} {d} {d′} {d″} p q =
     }
 
 -- ---- a fact's words
-pub words-three : {at i j k : ℕ} {hit : Bool} {y kind : ℕ} {a b w v : ℤ} {d d′ d″ d‴ : List ℤ} → hit ≡ true → a ≡ pos y → b ≡ pos kind → w ≡ v →
-    Appended at (a ∷ []) d d′ i → Appended i (b ∷ []) d′ d″ j → Appended j (w ∷ []) d″ d‴ k → Appended at (words-if hit y kind v) d d‴ k
-words-three e p q r x y z = rw (e, ← p, ← q, ← r) (appended-both (appended-both x y) z)
+pub words-three : {at i j k : ℕ} {hit : Bool} {y kind : ℕ} {v : ℤ} {d d′ d″ d‴ : List ℤ} → hit ≡ true →
+    Appended at (pos y ∷ []) d d′ i → Appended i (pos kind ∷ []) d′ d″ j → Appended j (v ∷ []) d″ d‴ k → Appended at (words-if hit y kind v) d d‴ k
+words-three e x y z = rw e (appended-both (appended-both x y) z)
 
 pub words-none : {at : ℕ} {hit : Bool} (y kind : ℕ) (v : ℤ) {d : List ℤ} → hit ≡ false → Appended at (words-if hit y kind v) d d at
 words-none {at} y kind v {d} e = rw e (appended-none at d)
@@ -109,6 +116,10 @@ module _ (m l u t : Bool) (z : ℕ) (a b v w : ℤ) where
       ∙ ap₂ _++_ (words-quote (m && t) z h-min v) (words-quote (not m && t) z h-max w)
       ∙ words-heights m t z v w))
 
+height-word : (m : Bool) (W : Windows) (z : ℕ) → W z (end (cond m 3 4)) ≡ cond m (W z h-min) (W z h-max)
+height-word true W z = refl
+height-word false W z = refl
+
 quote-length : (t : Bool) (z : ℕ) (k : End) (v : ℤ) → length (quote t z k v) ≡ cond t 1 0
 quote-length true z k v = refl
 quote-length false z k v = refl
@@ -119,45 +130,38 @@ one-height true false = refl
 one-height false true = refl
 one-height false false = refl
 
-module _ (q : Citing) (W : Windows) (z : ℕ) where
-  pub event-words : premise-words (premises-of q W z)
-      ≡ words-if (cites-of q W z t-min) z 1 (says-of q W z t-min)
-      ++ (words-if (cites-of q W z t-max) z 2 (says-of q W z t-max)
-      ++ words-if (cites-height q W z) z (cond (q .mirror) 3 4) (cond (q .mirror) (W z h-min) (W z h-max)))
-  event-words =
-      quotes-words (q .mirror) (cites-of q W z t-min) (cites-of q W z t-max) (cites-height q W z) z (says-of q W z t-min) (says-of q W z t-max) (W z h-min) (W z h-max)
+module _ (c : LevelCiting) (W : Windows) (z : ℕ) {l u t : Bool} (low : l ≡ level-cited c W z t-min) (high : u ≡ level-cited c W z t-max) (tall : t ≡ height-cited c W z) where
+  pub event-count : length (premises-of (level-cited c W) (level-said c W) z) ≡ cond l 1 0 + cond u 1 0 + cond t 1 0
+  event-count =
+      let a = quote-length (level-cited c W z t-min) z t-min (level-said c W z t-min) in
+      let b = quote-length (level-cited c W z t-max) z t-max (level-said c W z t-max) in
+      let d = quote-length (level-cited c W z h-min) z h-min (W z h-min) in
+      let f = quote-length (level-cited c W z h-max) z h-max (W z h-max) in
+      let e = one-height (c .view .mirror) (height-cited c W z) in
+      rw (low, high, tall) (simp length-append (omega arith))
 
-  pub event-length : length (premises-of q W z) ≡ cond (cites-of q W z t-min) 1 0 + cond (cites-of q W z t-max) 1 0 + cond (cites-height q W z) 1 0
-  event-length =
-      let a = quote-length (cites-of q W z t-min) z t-min (says-of q W z t-min) in
-      let b = quote-length (cites-of q W z t-max) z t-max (says-of q W z t-max) in
-      let c = quote-length (cites-of q W z h-min) z h-min (says-of q W z h-min) in
-      let d = quote-length (cites-of q W z h-max) z h-max (says-of q W z h-max) in
-      let e = one-height (q .mirror) (cites-height q W z) in
-      simp length-append (omega arith)
-
-  module _ {l u t : Bool} (low : l ≡ cites-of q W z t-min) (high : u ≡ cites-of q W z t-max) (tall : t ≡ cites-height q W z) where
-    pub event-count : length (premises-of q W z) ≡ cond l 1 0 + cond u 1 0 + cond t 1 0
-    event-count = rw (low, high, tall) event-length
-
-    pub event-appended : {at i j k kind : ℕ} {a b v : ℤ} {d d′ d″ d‴ : List ℤ} → a ≡ says-of q W z t-min → b ≡ says-of q W z t-max → kind ≡ cond (q .mirror) 3 4 → v ≡ cond (q .mirror) (W z h-min) (W z h-max) →
-        Appended at (words-if l z 1 a) d d′ i → Appended i (words-if u z 2 b) d′ d″ j → Appended j (words-if t z kind v) d″ d‴ k → Appended at (premise-words (premises-of q W z)) d d‴ k
-    event-appended p q r s x y z = rw (event-words, ← low, ← high, ← tall, ← p, ← q, ← r, ← s) (appended-both x (appended-both y z))
+  pub event-appended : {at i j k kind : ℕ} {a b v : ℤ} {d d′ d″ d‴ : List ℤ} → a ≡ level-said c W z t-min → b ≡ level-said c W z t-max → kind ≡ cond (c .view .mirror) 3 4 → v ≡ W z (end kind) →
+      Appended at (words-if l z 1 a) d d′ i → Appended i (words-if u z 2 b) d′ d″ j → Appended j (words-if t z kind v) d″ d‴ k →
+      Appended at (premise-words (premises-of (level-cited c W) (level-said c W) z)) d d‴ k
+  event-appended p q r s f g h =
+      let o : _ ≡ cond (c .view .mirror) (W z h-min) (W z h-max) = s ∙ rw r (height-word (c .view .mirror) W z) in
+      rw (quotes-words (c .view .mirror) (level-cited c W z t-min) (level-cited c W z t-max) (height-cited c W z) z (level-said c W z t-min) (level-said c W z t-max) (W z h-min) (W z h-max), ← low, ← high, ← tall, ← p, ← q, ← r, ← o)
+      (appended-both f (appended-both g h))
 
 -- ---- all events
-module _ (q : Citing) (W : Windows) where
-  pub premises-none : [] ≡ premise-list 0 (cites-of q W) (says-of q W)
+module _ (c : ℕ → End → Bool) (v : ℕ → End → ℤ) where
+  pub premises-none : [] ≡ premise-list 0 c v
   unfolding premise-list
   premises-none = refl
 
-  pub premises-more : (z : ℕ) → premise-list (z + 1) (cites-of q W) (says-of q W) ≡ premise-list z (cites-of q W) (says-of q W) ++ premises-of q W z
+  premises-more : (z : ℕ) → premise-list (z + 1) c v ≡ premise-list z c v ++ premises-of c v z
   unfolding premise-list
   premises-more z = rw (add-one z)
 
-  pub length-more : (z : ℕ) → length (premise-list (z + 1) (cites-of q W) (says-of q W)) ≡ length (premise-list z (cites-of q W) (says-of q W)) + length (premises-of q W z)
-  length-more z = ap length (premises-more z) ∙ length-append (premise-list z (cites-of q W) (says-of q W)) (premises-of q W z)
+  pub length-more : (z : ℕ) → length (premise-list (z + 1) c v) ≡ length (premise-list z c v) + length (premises-of c v z)
+  length-more z = ap length (premises-more z) ∙ length-append (premise-list z c v) (premises-of c v z)
 
-  fewer : (z k : ℕ) → length (premise-list z (cites-of q W) (says-of q W)) ≤ length (premise-list (z + k) (cites-of q W) (says-of q W))
+  fewer : (z k : ℕ) → length (premise-list z c v) ≤ length (premise-list (z + k) c v)
   fewer z zero = let e : z + 0 ≡ z = omega arith in rw e (omega arith)
   fewer z (suc k) =
       let e : z + suc k ≡ z + k + 1 = omega arith in
@@ -166,99 +170,108 @@ module _ (q : Citing) (W : Windows) where
       rw e (omega arith)
 
   -- The facts of one more event are among those of all.
-  pub room-for : {n z : ℕ} → z < n → length (premise-list z (cites-of q W) (says-of q W)) + length (premises-of q W z) ≤ length (premise-list n (cites-of q W) (says-of q W))
+  pub room-for : {n z : ℕ} → z < n → length (premise-list z c v) + length (premises-of c v z) ≤ length (premise-list n c v)
   room-for {n} {z} l =
       let e : z + 1 + (n - (z + 1)) ≡ n = omega arith in
       let h = rw e at (fewer (z + 1) (n - (z + 1))) in
       let m = length-more z in
       omega arith
 
+  listed-more : (z : ℕ) → premise-words (premise-list (z + 1) c v) ≡ premise-words (premise-list z c v) ++ premise-words (premises-of c v z)
+  listed-more z = rw (premises-more z) (words-append (premise-list z c v) (premises-of c v z))
+
   -- One event's words after those of the events before it.
-  pub words-more : (z : ℕ) {at i j : ℕ} {d d′ d″ : List ℤ} → Appended at (premise-words (premise-list z (cites-of q W) (says-of q W))) d d′ i → Appended i (premise-words (premises-of q W z)) d′ d″ j →
-      Appended at (premise-words (premise-list (z + 1) (cites-of q W) (says-of q W))) d d″ j
-  words-more z x y =
-      rw (premises-more z, words-append (premise-list z (cites-of q W) (says-of q W)) (premises-of q W z)) (appended-both x y)
+  pub words-more : (z : ℕ) {at i j : ℕ} {d d′ d″ : List ℤ} → Appended at (premise-words (premise-list z c v)) d d′ i → Appended i (premise-words (premises-of c v z)) d′ d″ j →
+      Appended at (premise-words (premise-list (z + 1) c v)) d d″ j
+  words-more z x y = rw (listed-more z) (appended-both x y)
 
-  pub words-start : (at : ℕ) (d : List ℤ) → Appended at (premise-words (premise-list 0 (cites-of q W) (says-of q W))) d d at
+  listed-nothing : premise-words (premise-list 0 c v) ≡ []
   unfolding premise-words
-  words-start at d = rw (← premises-none) (appended-none at d)
+  listed-nothing = rw (← premises-none)
 
--- ---- a lag's slip: the facts of two events
-module _ (q : Citing) (W : Windows) where
-  listed-more : (z : ℕ) → premise-words (premise-list (z + 1) (cites-of q W) (says-of q W)) ≡ premise-words (premise-list z (cites-of q W) (says-of q W)) ++ premise-words (premises-of q W z)
-  listed-more z = rw (premises-more q W z) (words-append (premise-list z (cites-of q W) (says-of q W)) (premises-of q W z))
+  pub words-start : (at : ℕ) (d : List ℤ) → Appended at (premise-words (premise-list 0 c v)) d d at
+  words-start at d = rw listed-nothing (appended-none at d)
 
   -- Events without facts add no words.
-  listed-same : (a k : ℕ) → ((z : ℕ) → a ≤ z → z < a + k → premise-words (premises-of q W z) ≡ []) →
-      premise-words (premise-list (a + k) (cites-of q W) (says-of q W)) ≡ premise-words (premise-list a (cites-of q W) (says-of q W))
+  listed-same : (a k : ℕ) → ((z : ℕ) → a ≤ z → z < a + k → premise-words (premises-of c v z) ≡ []) → premise-words (premise-list (a + k) c v) ≡ premise-words (premise-list a c v)
   listed-same a zero h = let e : a + 0 ≡ a = omega arith in rw e
   listed-same a (suc k) h =
       let e : a + suc k ≡ a + k + 1 = omega arith in
-      rw (e, listed-more (a + k), h (a + k) (omega arith) (omega arith)) (append-nil (premise-words (premise-list (a + k) (cites-of q W) (says-of q W))) ∙ listed-same a k (λ z l m. h z l (omega arith)))
+      rw (e, listed-more (a + k), h (a + k) (omega arith) (omega arith)) (append-nil (premise-words (premise-list (a + k) c v)) ∙ listed-same a k (λ z l m. h z l (omega arith)))
 
-  listed-nothing : premise-words (premise-list 0 (cites-of q W) (says-of q W)) ≡ []
-  unfolding premise-words
-  listed-nothing = rw (← premises-none q W)
+  -- Of the events from a on to n only i has facts.
+  listed-one : (a i n : ℕ) → a ≤ i → i < n → ((z : ℕ) → a ≤ z → z < n → (z ≡ i → ⊥) → premise-words (premises-of c v z) ≡ []) →
+      premise-words (premise-list n c v) ≡ premise-words (premise-list a c v) ++ premise-words (premises-of c v i)
+  listed-one a i n l m h =
+      let p : a + (i - a) ≡ i = omega arith in
+      let q : i + 1 + (n - (i + 1)) ≡ n = omega arith in
+      let first = rw p at (listed-same a (i - a) (λ z f g. h z f (omega arith) (λ e. omega arith))) in
+      let last = rw q at (listed-same (i + 1) (n - (i + 1)) (λ z f g. h z (omega arith) (omega arith) (λ e. omega arith))) in
+      last ∙ listed-more i ∙ rw first
 
-  listed-two : (i j n : ℕ) → i < j → j < n → ((z : ℕ) → (z ≡ i → ⊥) → (z ≡ j → ⊥) → premise-words (premises-of q W z) ≡ []) →
-      premise-words (premise-list n (cites-of q W) (says-of q W)) ≡ premise-words (premises-of q W i) ++ premise-words (premises-of q W j)
+  listed-two : (i j n : ℕ) → i < j → j < n → ((z : ℕ) → (z ≡ i → ⊥) → (z ≡ j → ⊥) → premise-words (premises-of c v z) ≡ []) →
+      premise-words (premise-list n c v) ≡ premise-words (premises-of c v i) ++ premise-words (premises-of c v j)
   listed-two i j n l m h =
-      let a : i + 1 + (j - (i + 1)) ≡ j = omega arith in
-      let b : j + 1 + (n - (j + 1)) ≡ n = omega arith in
-      let o : 0 + i ≡ i = omega arith in
-      let first = rw o at (listed-same 0 i (λ z f g. h z (λ e. omega arith) (λ e. omega arith))) in
-      let between = rw a at (listed-same (i + 1) (j - (i + 1)) (λ z f g. h z (λ e. omega arith) (λ e. omega arith))) in
-      let last = rw b at (listed-same (j + 1) (n - (j + 1)) (λ z f g. h z (λ e. omega arith) (λ e. omega arith))) in
-      let start : premise-words (premise-list i (cites-of q W) (says-of q W)) ≡ [] = first ∙ listed-nothing in
-      last ∙ listed-more j ∙ ap (λ (l : List ℤ). l ++ premise-words (premises-of q W j)) (between ∙ listed-more i ∙ ap (λ (l : List ℤ). l ++ premise-words (premises-of q W i)) start)
+      listed-one (i + 1) j n (omega arith) m (λ z f g e. h z (λ p. omega arith) e)
+      ∙ rw (listed-one 0 i (i + 1) (omega arith) (omega arith) (λ z f g e. h z e (λ p. omega arith)), listed-nothing)
 
-  module _ (lag : q .level ≡ false) (apart : q .lower ≡ q .upper → ⊥) where
-    lag-words : (z : ℕ) → premise-words (premises-of q W z)
-        ≡ words-if ((eqb z (q .lower) && q .starts) || false) z 1 (says-of q W z t-min) ++ (words-if ((eqb z (q .upper) && q .ends) || false) z 2 (says-of q W z t-max) ++ [])
-    lag-words z = event-words q W z ∙ rw lag
+-- ---- a lag's slip: the facts of two events
+and-true : (b : Bool) → (b && true) ≡ b
+and-true true = refl
+and-true false = refl
 
-    lag-none : (z : ℕ) → (z ≡ q .lower → ⊥) → (z ≡ q .upper → ⊥) → premise-words (premises-of q W z) ≡ []
-    lag-none z l u = lag-words z ∙ rw (ne-eqb z (q .lower) l, ne-eqb z (q .upper) u)
+and-false : (b : Bool) → (b && false) ≡ false
+and-false true = refl
+and-false false = refl
 
-    plain : (t : Bool) (y k : ℕ) (v : ℤ) → words-if (t || false) y k v ≡ words-if t y k v
-    plain true y k v = refl
-    plain false y k v = refl
+-- Two lists in either order.
+either-length : (t : Bool) (xs ys : List ℤ) → length (cond t (xs ++ ys) (ys ++ xs)) ≡ length xs + length ys
+either-length true xs ys = length-append xs ys
+either-length false xs ys = length-append ys xs ∙ omega arith
 
-    lag-lower : premise-words (premises-of q W (q .lower)) ≡ words-if (q .starts) (q .lower) 1 (q .from .0)
-    lag-lower =
-        lag-words (q .lower)
-        ∙ rw (eq-eqb (q .lower) (q .lower) refl, ne-eqb (q .lower) (q .upper) apart) (append-nil (words-if (q .starts || false) (q .lower) 1 (q .from .0)) ∙ plain (q .starts) (q .lower) 1 (q .from .0))
+module _ (c : LagCiting) where
+  event-lag : (z : ℕ) → premise-words (premises-of (lag-cited c) (lag-said c) z) ≡ words-if (c .starts && eqb z (c .a)) z 1 (c .from .0) ++ words-if (c .ends && eqb z (c .b)) z 2 (c .to .0)
+  event-lag z =
+      quotes-words false (lag-cited c z t-min) (lag-cited c z t-max) false z (c .from .0) (c .to .0) (pos 0) (pos 0)
+      ∙ ap (λ (l : List ℤ). words-if (c .starts && eqb z (c .a)) z 1 (c .from .0) ++ l) (append-nil (words-if (c .ends && eqb z (c .b)) z 2 (c .to .0)))
 
-    lag-upper : premise-words (premises-of q W (q .upper)) ≡ words-if (q .ends) (q .upper) 2 (q .to .0)
-    lag-upper =
-        lag-words (q .upper)
-        ∙ rw (eq-eqb (q .upper) (q .upper) refl, ne-eqb (q .upper) (q .lower) (λ e. apart (sym e))) (append-nil (words-if (q .ends || false) (q .upper) 2 (q .to .0)) ∙ plain (q .ends) (q .upper) 2 (q .to .0))
+  lag-none : (z : ℕ) → (z ≡ c .a → ⊥) → (z ≡ c .b → ⊥) → premise-words (premises-of (lag-cited c) (lag-said c) z) ≡ []
+  lag-none z l u = event-lag z ∙ rw (ne-eqb z (c .a) l, ne-eqb z (c .b) u, and-false (c .starts), and-false (c .ends))
 
-  pub lower-first : {n : ℕ} → q .level ≡ false → q .lower < q .upper → q .upper < n →
-      premise-words (premise-list n (cites-of q W) (says-of q W)) ≡ words-if (q .starts) (q .lower) 1 (q .from .0) ++ words-if (q .ends) (q .upper) 2 (q .to .0)
-  lower-first {n} g l m =
-      let apart : q .lower ≡ q .upper → ⊥ = λ e. omega arith in
-      listed-two (q .lower) (q .upper) n l m (lag-none g apart) ∙ rw (lag-lower g apart, lag-upper g apart)
+  lag-first : (c .a ≡ c .b → ⊥) → premise-words (premises-of (lag-cited c) (lag-said c) (c .a)) ≡ words-if (c .starts) (c .a) 1 (c .from .0)
+  lag-first h = event-lag (c .a) ∙ rw (eq-eqb (c .a) (c .a) refl, ne-eqb (c .a) (c .b) h, and-true (c .starts), and-false (c .ends)) (append-nil (words-if (c .starts) (c .a) 1 (c .from .0)))
 
-  pub upper-first : {n : ℕ} → q .level ≡ false → q .upper < q .lower → q .lower < n →
-      premise-words (premise-list n (cites-of q W) (says-of q W)) ≡ words-if (q .ends) (q .upper) 2 (q .to .0) ++ words-if (q .starts) (q .lower) 1 (q .from .0)
-  upper-first {n} g l m =
-      let apart : q .lower ≡ q .upper → ⊥ = λ e. omega arith in
-      listed-two (q .upper) (q .lower) n l m (λ z a b. lag-none g apart z b a) ∙ rw (lag-lower g apart, lag-upper g apart)
+  lag-second : (c .a ≡ c .b → ⊥) → premise-words (premises-of (lag-cited c) (lag-said c) (c .b)) ≡ words-if (c .ends) (c .b) 2 (c .to .0)
+  lag-second h = event-lag (c .b) ∙ rw (eq-eqb (c .b) (c .b) refl, ne-eqb (c .b) (c .a) (λ e. h (sym e)), and-false (c .starts), and-true (c .ends))
 
--- Two facts, one after the other: the room for the second, and both appended.
-pub room-next : (at n : ℕ) (l u : Bool) {i m w : ℕ} → at + 3 * cond l 1 0 + 3 * cond u 1 0 ≤ n → w ≡ 3 * cond l 1 0 → i ≡ at + w → m ≡ n → i + 3 * cond u 1 0 ≤ m
-room-next at n l u room long place same = omega arith
+  module _ (n : ℕ) (known : (c .a < n) × (c .b < n)) where
+    pub lag-listed : premise-words (premise-list n (lag-cited c) (lag-said c)) ≡ lag-words c
+    lag-listed =
+        ⊎-elim
+        (λ t. let h = leb→le (c .a) (c .b) t in rw (le-leb (c .a) (c .b) h) (⊎-elim one first (eq-or-lt-of-le h)))
+        (λ t. let h = nleb→lt (c .a) (c .b) t in rw (lt-leb (c .a) (c .b) h) (last h))
+        (decide (leb (c .a) (c .b)))
+      where
+        one : c .a ≡ c .b → premise-words (premise-list n (lag-cited c) (lag-said c)) ≡ words-if (c .starts) (c .a) 1 (c .from .0) ++ words-if (c .ends) (c .b) 2 (c .to .0)
+        one e = listed-one (lag-cited c) (lag-said c) 0 (c .b) n (omega arith) (known .1) (λ z f g h. lag-none z (λ i. h (i ∙ e)) h) ∙ rw (listed-nothing (lag-cited c) (lag-said c)) (event-lag (c .b) ∙ rw (e, eq-eqb (c .b) (c .b) refl, and-true (c .starts), and-true (c .ends)))
 
-pub two-appended : (l u : Bool) (y z k k′ : ℕ) {at i j : ℕ} {a b v w : ℤ} {d d′ d″ : List ℤ} → a ≡ v → b ≡ w → Appended at (words-if l y k a) d d′ i → Appended i (words-if u z k′ b) d′ d″ j →
-    Appended at (words-if l y k v ++ words-if u z k′ w) d d″ j
-two-appended l u y z k k′ p q f g = rw (← p, ← q) (appended-both f g)
+        first : c .a < c .b → premise-words (premise-list n (lag-cited c) (lag-said c)) ≡ words-if (c .starts) (c .a) 1 (c .from .0) ++ words-if (c .ends) (c .b) 2 (c .to .0)
+        first h = listed-two (lag-cited c) (lag-said c) (c .a) (c .b) n h (known .1) lag-none ∙ rw (lag-first (λ e. omega arith), lag-second (λ e. omega arith))
 
--- Room for a list of facts whose words are those of two is room for both.
-pub room-both : (at n : ℕ) (xs : List Premise) (l u : Bool) (y z i j : ℕ) (v w : ℤ) → at + 3 * length xs ≤ n → premise-words xs ≡ words-if l y i v ++ words-if u z j w → at + 3 * cond l 1 0 + 3 * cond u 1 0 ≤ n
-room-both at n xs l u y z i j v w room e =
-    let a = ap length e ∙ length-append (words-if l y i v) (words-if u z j w) in
-    omega (arith, words-length xs, words-count l y i v, words-count u z j w)
+        last : c .b < c .a → premise-words (premise-list n (lag-cited c) (lag-said c)) ≡ words-if (c .ends) (c .b) 2 (c .to .0) ++ words-if (c .starts) (c .a) 1 (c .from .0)
+        last h = listed-two (lag-cited c) (lag-said c) (c .b) (c .a) n h (known .0) (λ z l u. lag-none z u l) ∙ rw (lag-first (λ e. omega arith), lag-second (λ e. omega arith))
+
+    pub lag-length : length (premise-list n (lag-cited c) (lag-said c)) ≡ cond (c .starts) 1 0 + cond (c .ends) 1 0
+    lag-length =
+        let e = ap length lag-listed ∙ either-length (leb (c .a) (c .b)) (words-if (c .starts) (c .a) 1 (c .from .0)) (words-if (c .ends) (c .b) 2 (c .to .0)) in
+        omega (arith, words-length (premise-list n (lag-cited c) (lag-said c)), words-count (c .starts) (c .a) 1 (c .from .0), words-count (c .ends) (c .b) 2 (c .to .0))
+
+  -- Both appended, in either order.
+  pub lag-appended : {at i j : ℕ} {u v : ℤ} {d d′ d″ : List ℤ} → u ≡ c .from .0 → v ≡ c .to .0 → c .a ≤ c .b → Appended at (words-if (c .starts) (c .a) 1 u) d d′ i → Appended i (words-if (c .ends) (c .b) 2 v) d′ d″ j → Appended at (lag-words c) d d″ j
+  lag-appended p q h f g = rw (le-leb (c .a) (c .b) h, ← p, ← q) (appended-both f g)
+
+  pub lag-appended-back : {at i j : ℕ} {u v : ℤ} {d d′ d″ : List ℤ} → u ≡ c .from .0 → v ≡ c .to .0 → c .b < c .a → Appended at (words-if (c .ends) (c .b) 2 v) d d′ i → Appended i (words-if (c .starts) (c .a) 1 u) d′ d″ j → Appended at (lag-words c) d d″ j
+  lag-appended-back p q h f g = rw (lt-leb (c .a) (c .b) h, ← p, ← q) (appended-both f g)
 
 -- ---- the model's facts
 -- Two ways to quote that agree give the same list.
@@ -278,8 +291,9 @@ list-same (suc z) c c′ v v′ p q =
     at : (k : End) → quote (c z k) z k (v z k) ≡ quote (c′ z k) z k (v′ z k)
     at k = quote-same (c z k) (c′ z k) z k (v z k) (v′ z k) (p z k) (q z k)
 
--- What q cites is what the slip of its rule quotes.
-pub same-premises : {lags : List ℤ} {n : ℕ} {c : Reservoir} {W : Windows} {r e y : ℕ} {x : Done} {q : Citing} (h : ℤ) → Cites lags n c W r e y x q →
-    premise-list n (cites-of q W) (says-of q W) ≡ premise-list n (quotes (rule r) (job-of h c n lags) W e y (effect-of x)) (quoted (rule r) (job-of h c n lags) W e y (effect-of x))
-same-premises {lags} {n} {c} {W} {r} {e} {y} {x} {q} h s =
-    list-same n (cites-of q W) (quotes (rule r) (job-of h c n lags) W e y (effect-of x)) (says-of q W) (quoted (rule r) (job-of h c n lags) W e y (effect-of x)) (s .cites h) (s .says h)
+-- What is cited is what the slip of its rule quotes.
+pub same-premises : {k : Job} {ws : List ℤ} {W : Windows} {r e y : ℕ} {x : Done} {c : Citing} (j : Call) → Holds k ws j → Cites k ws W r e y x c →
+    premise-list (k .events) (cites-of c W) (says-of c W) ≡ premise-list (events j) (quotes (rule r) j W e y (effect-of x)) (quoted (rule r) j W e y (effect-of x))
+same-premises {k} {ws} {W} {r} {e} {y} {x} {c} j h s =
+    rw (h .events-are)
+    (list-same (k .events) (cites-of c W) (quotes (rule r) j W e y (effect-of x)) (says-of c W) (quoted (rule r) j W e y (effect-of x)) (s .cites j h) (s .says j h))

@@ -14,9 +14,10 @@ use Rattle.integers.specs.Range.{eqZ}
 use Rattle.integers.proofs.Linear.{ints}
 use Rattle.integers.proofs.Tests.{and-yes, and-no, and-out, is-true}
 use Rattle.model.specs.Questions.{in-range}
-use Rattle.model.specs.Slips.{slip-length}
-use Rattle.model.specs.Reader.{slip, cut, at, whole, premise-count, slip-at, reading}
-use Rattle.slips.specs.Reading.{Sized, Stands, explanation-of}
+use Rattle.model.specs.Rules.{known-rule}
+use Rattle.model.specs.Slips.{slip-length, at, premise-count, slip-at}
+use Rattle.model.specs.Reader.{slip, cut, whole, reading}
+use Rattle.slips.specs.Slip.{Sized, Stands, explanation-of}
 use Rattle.slips.specs.declared.Slip.{Slip}
 
 module _ (list : List ℤ) (stop p m : ℕ) where
@@ -31,7 +32,7 @@ module _ (list : List ℤ) (stop p m : ℕ) where
 
 -- ---- 13, test by test
 
-rule-natural : (w : ℤ) → T (in-range (pos 1) (pos 14) w) → T (leZ (pos 0) w)
+rule-natural : (w : ℤ) → T (known-rule w) → T (leZ (pos 0) w)
 rule-natural w t = let a = and-out (leZ (pos 1) w) (leZ w (pos 14)) t .0 in omega ints
 
 pub few-natural : (w : ℤ) → T (in-range (pos 0) (pos 256) w) → (natAbs w ≤ 256) × T (leZ (pos 0) w)
@@ -59,7 +60,7 @@ module _ (list : List ℤ) (stop p : ℕ) where
   sized t =
       let m = premise-count list p in
       let o =
-      five (leb (p + 7) stop) (in-range (pos 1) (pos 14) (at list p)) (in-range (pos 0) (pos 256) (at list (p + 5))) (leb (p + slip-length m) stop) (eqZ (at list (p + (6 + 3 * m))) (pos (slip-length m))) t
+      five (leb (p + 7) stop) (known-rule (at list p)) (in-range (pos 0) (pos 256) (at list (p + 5))) (leb (p + slip-length m) stop) (eqZ (at list (p + (6 + 3 * m))) (pos (slip-length m))) t
       in
       record {
         is-whole = t;
@@ -77,15 +78,15 @@ module _ (list : List ℤ) (stop p : ℕ) where
   unfolding whole
   not-room h = rw (lt-leb (p + 7) stop h)
 
-  pub not-rule : in-range (pos 1) (pos 14) (at list p) ≡ false → p + 7 ≤ stop → false ≡ whole list stop p
+  pub not-rule : known-rule (at list p) ≡ false → p + 7 ≤ stop → false ≡ whole list stop p
   unfolding whole
   not-rule e h = rw (le-leb (p + 7) stop h, e)
 
-  pub not-count : in-range (pos 0) (pos 256) (at list (p + 5)) ≡ false → in-range (pos 1) (pos 14) (at list p) ≡ true → p + 7 ≤ stop → false ≡ whole list stop p
+  pub not-count : in-range (pos 0) (pos 256) (at list (p + 5)) ≡ false → known-rule (at list p) ≡ true → p + 7 ≤ stop → false ≡ whole list stop p
   unfolding whole
   not-count e f h = rw (le-leb (p + 7) stop h, e, f)
 
-  pub all-hold : in-range (pos 0) (pos 256) (at list (p + 5)) ≡ true → in-range (pos 1) (pos 14) (at list p) ≡ true → p + 7 ≤ stop → {r : Bool} → r ≡ closed list stop p (premise-count list p) → r ≡ whole list stop p
+  pub all-hold : in-range (pos 0) (pos 256) (at list (p + 5)) ≡ true → known-rule (at list p) ≡ true → p + 7 ≤ stop → {r : Bool} → r ≡ closed list stop p (premise-count list p) → r ≡ whole list stop p
   unfolding whole
   all-hold e f h g = rw (le-leb (p + 7) stop h, e, f) g
 
@@ -110,7 +111,7 @@ fails-at low high v e f g = sym (rw f at e) ∙ not-true _ g
 pub holds-at : (low high v : ℤ) {w : ℤ} {t : Bool} → t ≡ in-range low high w → w ≡ v → not t ≡ false → in-range low high v ≡ true
 holds-at low high v e f g = sym (rw f at e) ∙ not-false _ g
 
-rule-range : (w : ℤ) → T (in-range (pos 1) (pos 14) w) → (1 ≤ natAbs w) × (natAbs w ≤ 14)
+rule-range : (w : ℤ) → T (known-rule w) → (1 ≤ natAbs w) × (natAbs w ≤ 14)
 rule-range (pos n) t =
     let o = and-out (leZ (pos 1) (pos n)) (leZ (pos n) (pos 14)) t in
     (leb→le 1 n (o .0), leb→le n 14 (o .1))

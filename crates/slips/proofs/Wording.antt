@@ -7,7 +7,12 @@ use native.Mathlib.Omega.{arith}
 use lib.IntN.{ℤ, pos}
 use lib.ListN.{length, take, drop, length-append}
 use lib.Seq.{length-take-le, take-add, take-at, drop-at, take-take, drop-drop}
-use Rattle.model.specs.Slips.{Explanation, premise-words, slip-words}
+use Rattle.model.specs.Job.{Windows}
+use Rattle.model.specs.Standing.{Ranged}
+use Rattle.model.specs.Slips.{premise-list, Explanation, premise-words, slip-words}
+use Rattle.model.proofs.Words.{premise-list-length}
+use Rattle.facts.specs.Quotes.{cites-of, says-of}
+use Rattle.facts.specs.declared.Citing.{Citing}
 use Rattle.slips.specs.Words.{Appended}
 use Rattle.slips.proofs.Filling.{appended-both, words-length}
 
@@ -16,6 +21,10 @@ pub drop-later : (l m : List ℤ) (u v : ℕ) → u ≤ v → drop u l ≡ drop 
 drop-later l m u v h e =
     let k : v ≡ u + (v - u) = omega arith in
     rw (k, ← drop-drop (v - u) u l, ← drop-drop (v - u) u m, e)
+
+-- At most four facts an event.
+pub few-facts : {n : ℕ} {W : Windows} (c : Citing) → Ranged n W → length (premise-list n (cites-of c W) (says-of c W)) ≤ 256
+few-facts {n} {W} c r = omega (arith, premise-list-length n (cites-of c W) (says-of c W), r .few)
 
 -- The six words before the facts.
 abbrev pub head-words : Explanation → ℕ → List ℤ

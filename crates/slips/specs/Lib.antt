@@ -1,3 +1,2 @@
 pub mod Words
-pub mod Written
-pub mod Reading
+pub mod Slip

@@ -1,6 +1,9 @@
-// 13: a slip read from the list.
-use crate::Read;
+// A slip (question 13), a fact and the trailer read from a list, whatever words it holds.
+use crate::Fact;
+use crate::MOST_FACTS;
 use crate::Slip;
+use crate::SlipRead;
+use crate::Trailer;
 use crate::words::between;
 use crate::words::index;
 use crate::words::word_at;
@@ -11,25 +14,29 @@ ghost use Prim.Native.Nat.{_+_, _*_, _≤_};
 ghost use lib.Dec.{leb};
 ghost use lib.IntN.{pos};
 ghost use Rattle.integers.specs.Range.{eqZ};
-ghost use Rattle.model.specs.Slips.{slip-length};
-ghost use Rattle.model.specs.Reader.{at, whole, reading};
-ghost use Rattle.slips.specs.Reading.{Sized, reading-of, Placed};
+ghost use Rattle.model.specs.Slips.{slip-length, at};
+ghost use Rattle.model.specs.Reader.{whole, reading};
+ghost use Rattle.slips.specs.Slip.{Sized, reading-of, Placed, premise-of, premise-at, Trails};
 
-// Does the slip at p with m facts end before the trailer, its last word its length?
-pub fn closes(list: &[i32], stop: usize, p: usize, m: usize) -> bool
-    requires { do ⌜ (p + 7 ≤ stop) × (stop ≤ (← ⟦list.len()⟧)) × (m ≤ 256) ⌝ }
-    ensures { λ r. ⌜ r ≡ (leb (p + slip-length m) stop && eqZ (at (now (list .entry)) (p + (6 + 3 * m))) (pos (slip-length m))) ⌝ }
+// Does the slip at p with so many facts end before the trailer, its last word its length?
+fn closes(list: &[i32], stop: usize, p: usize, count: usize) -> bool
+    requires { do ⌜ (p + 7 ≤ stop) × (stop ≤ (← ⟦list.len()⟧)) × (count ≤ 256) ⌝ }
+    ensures { λ r. ⌜
+        r
+        ≡ (leb (p + slip-length count) stop
+        && eqZ (at (now (list .entry)) (p + (6 + 3 * count))) (pos (slip-length count)))
+        ⌝ }
 {
-    let size = 7 + 3 * m;
+    let size = 7 + 3 * count;
     if stop - p < size {
         return false;
     }
-    let last = word_at(list, p + (6 + 3 * m));
+    let last = word_at(list, p + (6 + 3 * count));
     word_is(last, size)
 }
 
-// 13. Is the slip at p whole before the trailer, rule 1..14, m in 0..256, length right?
-pub fn is_whole(list: &[i32], stop: usize, p: usize) -> bool
+// 13. Is the slip at p whole before the trailer, rule 1..14, 0 to 256 facts, length right?
+fn is_whole(list: &[i32], stop: usize, p: usize) -> bool
     requires { do ⌜ (p ≤ stop) × (stop ≤ (← ⟦list.len()⟧)) ⌝ }
     ensures { λ r. ⌜ r ≡ whole (now (list .entry)) stop p ⌝ }
 {
@@ -41,7 +48,7 @@ pub fn is_whole(list: &[i32], stop: usize, p: usize) -> bool
         return false;
     }
     let count = word_at(list, p + 5);
-    if !between(count, 0, 256) {
+    if !between(count, 0, MOST_FACTS) {
         return false;
     }
     let m = index(count);
@@ -49,7 +56,7 @@ pub fn is_whole(list: &[i32], stop: usize, p: usize) -> bool
 }
 
 // The slip at p, which is whole.
-pub fn slip_at(list: &[i32], stop: usize, p: usize) -> Read
+fn slip_at(list: &[i32], stop: usize, p: usize) -> SlipRead
     requires { do ⌜ (stop ≤ (← ⟦list.len()⟧)) × (Sized (now list) stop p) ⌝ }
     ensures { λ r. ⌜ (reading-of (now (list .entry)) r ≡ reading (now (list .entry)) stop p) × Placed (now (list .entry)) stop r ⌝ }
 {
@@ -70,16 +77,41 @@ pub fn slip_at(list: &[i32], stop: usize, p: usize) -> Read
         facts: p + 6,
         count: m,
     };
-    Read::Whole(slip, p + (7 + 3 * m))
+    SlipRead::Whole(slip, p + (7 + 3 * m))
 }
 
 // 13. The slip at p and the place after it, or a refusal.
-pub fn read_slip(list: &[i32], stop: usize, p: usize) -> Read
+pub fn read_slip(list: &[i32], stop: usize, p: usize) -> SlipRead
     requires { do ⌜ (p ≤ stop) × (stop ≤ (← ⟦list.len()⟧)) ⌝ }
     ensures { λ r. ⌜ (reading-of (now (list .entry)) r ≡ reading (now (list .entry)) stop p) × Placed (now (list .entry)) stop r ⌝ }
 {
     if is_whole(list, stop, p) {
         return slip_at(list, stop, p);
     }
-    Read::Cut
+    SlipRead::Cut
+}
+
+// The fact at p.
+pub fn fact_at(list: &[i32], p: usize) -> Fact
+    requires { do ⌜ p + 3 ≤ (← ⟦list.len()⟧) ⌝ }
+    ensures { λ f. ⌜ premise-of f ≡ premise-at (now (list .entry)) p ⌝ }
+{
+    Fact {
+        event: word_at(list, p),
+        kind: word_at(list, p + 1),
+        value: word_at(list, p + 2),
+    }
+}
+
+// The trailer, a list's last three words.
+pub fn trailer_of(list: &[i32]) -> Trailer
+    requires { do ⌜ 3 ≤ (← ⟦list.len()⟧) ⌝ }
+    ensures { λ t. ⌜ Trails (now (list .entry)) t ⌝ }
+{
+    let stop = list.len() - 3;
+    Trailer {
+        slips: word_at(list, stop),
+        last: word_at(list, stop + 1),
+        mark: word_at(list, stop + 2),
+    }
 }

@@ -1,16 +1,19 @@
-// The words of a list: any numbers.
-use crate::Word;
+// One word of a list: read, compared, put.
 use questions::asked;
-use tables::Height;
-use tables::Time;
+use tables::Word;
 ghost use mathlib.Core.Path.{_≡_};
+ghost use mathlib.Core.List.{[], _∷_};
 ghost use Prim.Native.Nat.{_<_};
 ghost use lib.Dec.{T};
 ghost use lib.IntN.{pos, natAbs};
+ghost use lib.ListN.{length};
 ghost use lib.Signed.{leZ};
 ghost use Rattle.integers.specs.Range.{eqZ};
 ghost use Rattle.model.specs.Questions.{in-range, is-event};
-ghost use Rattle.model.specs.Reader.{at};
+ghost use Rattle.model.specs.Slips.{at};
+ghost use Rattle.slips.specs.Words.{Appended};
+
+// ---- read
 
 pub fn word_at(list: &[i32], i: usize) -> Word
     requires { do ⌜ i < (← ⟦list.len()⟧) ⌝ }
@@ -51,29 +54,30 @@ pub fn is_event(w: Word, n: usize) -> bool
     asked::is_event(w.0, n as i32)
 }
 
-pub fn at_most(a: Word, b: Word) -> bool
-    ensures { λ r. ⌜ r ≡ leZ (a .0) (b .0) ⌝ }
-{
-    let x = a.0;
-    let y = b.0;
-    x <= y
-}
-
-pub fn time_word(t: Time) -> Word
-    ensures { λ r. ⌜ r .0 ≡ t .0 ⌝ }
-{
-    Word(t.0)
-}
-
-pub fn height_word(h: Height) -> Word
-    ensures { λ r. ⌜ r .0 ≡ h .0 ⌝ }
-{
-    Word(h.0)
-}
-
 pub fn not_negative(w: Word) -> bool
     ensures { λ b. ⌜ b ≡ leZ (pos 0) (w .0) ⌝ }
 {
     let x = w.0;
     0 <= x
+}
+
+// ---- put
+
+// A word appended at a place; the next place.
+pub fn put_word(d: &mut [i32], at: usize, w: Word) -> usize
+    requires { ⌜ at < length (now d) ⌝ }
+    ensures { λ end. ⌜ Appended at (w .0 ∷ []) (now (d .entry)) (now (d .exit)) end ⌝ }
+{
+    let x = w.0;
+    d[at] = x;
+    at + 1
+}
+
+// A number, a place or a count appended.
+pub fn put_number(d: &mut [i32], at: usize, x: usize) -> usize
+    requires { ⌜ (at < length (now d)) × (x < 2147483648) ⌝ }
+    ensures { λ end. ⌜ Appended at (pos x ∷ []) (now (d .entry)) (now (d .exit)) end ⌝ }
+{
+    d[at] = x as i32;
+    at + 1
 }

@@ -1,29 +1,30 @@
 // The facts of a slip counted, and written into a lent buffer.
+use crate::words::put_number;
+use crate::words::put_word;
 use facts::Citing;
+use facts::LagCiting;
+use facts::LevelCiting;
 use facts::Quoted;
 use facts::premises::quoted;
 use facts::premises::surely_consumed;
-use levels::places::place;
 use levels::places::produces;
-use levels::places::side_h_max;
-use tables::Height;
-use tables::Time;
-use tables::h_max;
-use tables::h_min;
+use levels::views::place;
+use levels::views::seen_h_max;
+use tables::Word;
+use tables::ends::end_at;
+use tables::ends::time_word;
 ghost use mathlib.Core.Path.{_≡_};
-ghost use mathlib.Core.Bool.{true, cond};
-ghost use mathlib.Core.List.{[], _∷_, _++_};
+ghost use mathlib.Core.Bool.{cond};
 ghost use Prim.Native.Nat.{_+_, _*_, _<_, _≤_};
 ghost use lib.Dec.{eqb};
-ghost use lib.IntN.{pos};
 ghost use lib.ListN.{length};
 ghost use Rattle.integers.specs.Range.{Within};
-ghost use Rattle.model.specs.Job.{h-min, h-max};
+ghost use Rattle.model.specs.Job.{h-min};
+ghost use Rattle.model.specs.Standing.{Ranged};
 ghost use Rattle.model.specs.Slips.{premise-words, premise-list};
 ghost use Rattle.tables.specs.Board.{board};
-ghost use Rattle.levels.specs.Values.{Ranged};
-ghost use Rattle.facts.specs.Quotes.{cites-of, says-of, Quotes};
-ghost use Rattle.slips.specs.Words.{words-if, premises-of, Appended};
+ghost use Rattle.facts.specs.Quotes.{level-cited, level-said, cites-of, says-of, Known, Quotes};
+ghost use Rattle.slips.specs.Words.{words-if, premises-of, lag-words, Appended};
 
 // ---- counted
 
@@ -39,120 +40,123 @@ fn tally(f: Quoted) -> usize
     one(f.lower) + one(f.upper) + one(f.height)
 }
 
-// The number of facts of a slip of n events.
-pub fn count_premises(b: &[i32; 256], n: usize, q: Citing) -> usize
+// The number of facts of a reservoir rule's slip, of n events.
+fn count_events(b: &[i32; 256], n: usize, c: LevelCiting) -> usize
     requires { ⌜ Ranged n (board (now b)) ⌝ }
-    ensures { λ r. ⌜ r ≡ length (premise-list n (cites-of q (board (now (b .entry)))) (says-of q (board (now (b .entry))))) ⌝ }
+    ensures { λ r. ⌜ r ≡ length (premise-list n (level-cited c (board (now (b .entry)))) (level-said c (board (now (b .entry))))) ⌝ }
 {
     let mut count: usize = 0;
     let mut z: usize = 0;
     while z < n {
-        let f = quoted(b, q, z);
+        let f = quoted(b, c, z);
         count += tally(f);
         z += 1;
     }
     count
 }
 
+// The number of facts of a slip, of n events.
+pub fn count_premises(b: &[i32; 256], n: usize, cited: Citing) -> usize
+    requires { ⌜ Ranged n (board (now b)) × Known n cited ⌝ }
+    ensures { λ r. ⌜ r ≡ length (premise-list n (cites-of cited (board (now (b .entry)))) (says-of cited (board (now (b .entry))))) ⌝ }
+{
+    match cited {
+        Citing::Lag(c) => one(c.starts) + one(c.ends),
+        Citing::Level(c) => count_events(b, n, c),
+    }
+}
+
 // ---- written
 
-fn number(x: usize) -> i32
-    requires { ⌜ x < 1000 ⌝ }
-    ensures { λ r. ⌜ r ≡ pos x ⌝ }
-{
-    x as i32
-}
-
-// One word appended at a place; the next place.
-pub fn put_word(d: &mut [i32], at: usize, w: i32) -> usize
-    requires { ⌜ at < length (now d) ⌝ }
-    ensures { λ r. ⌜ Appended at (w ∷ []) (now (d .entry)) (now (d .exit)) r ⌝ }
-{
-    d[at] = w;
-    at + 1
-}
-
 // One fact appended, if it is quoted.
-fn put_premise(d: &mut [i32], at: usize, hit: bool, y: usize, kind: usize, v: i32) -> usize
+fn put_premise(d: &mut [i32], at: usize, hit: bool, y: usize, kind: usize, v: Word) -> usize
     requires { ⌜ (at + 3 * cond hit 1 0 ≤ length (now d)) × (y < 64) × (kind < 5) ⌝ }
-    ensures { λ r. ⌜ Appended at (words-if hit y kind v) (now (d .entry)) (now (d .exit)) r ⌝ }
+    ensures { λ end. ⌜ Appended at (words-if hit y kind (v .0)) (now (d .entry)) (now (d .exit)) end ⌝ }
 {
     if hit {
-        let second = put_word(d, at, number(y));
-        let third = put_word(d, second, number(kind));
+        let second = put_number(d, at, y);
+        let third = put_number(d, second, kind);
         put_word(d, third, v)
     } else {
         at
     }
 }
 
-// What is said of t ≥ and of t ≤.
-fn said_lower(q: Citing, z: usize) -> Time
-    ensures { λ r. ⌜ r .0 ≡ cond (eqb z (q .lower)) (q .from .0) (q .after .0) ⌝ }
+// What is said of t ≥ and of t ≤ of event z.
+fn said_lower(c: LevelCiting, z: usize) -> Word
+    ensures { λ r. ⌜ r .0 ≡ cond (eqb z (c .view .subject)) (c .from .0) (c .after .0) ⌝ }
 {
-    let lower = q.lower;
-    let from = q.from;
-    let after = q.after;
-    if z == lower { from } else { after }
+    let view = c.view;
+    if z == view.subject {
+        time_word(c.from)
+    } else {
+        time_word(c.after)
+    }
 }
 
-fn said_upper(q: Citing, z: usize) -> Time
-    ensures { λ r. ⌜ r .0 ≡ cond (eqb z (q .upper)) (q .to .0) (q .until .0) ⌝ }
+fn said_upper(c: LevelCiting, z: usize) -> Word
+    ensures { λ r. ⌜ r .0 ≡ cond (eqb z (c .view .subject)) (c .to .0) (c .until .0) ⌝ }
 {
-    let upper = q.upper;
-    let to = q.to;
-    let until = q.until;
-    if z == upper { to } else { until }
+    let view = c.view;
+    if z == view.subject {
+        time_word(c.to)
+    } else {
+        time_word(c.until)
+    }
 }
 
-fn height_kind(m: bool) -> usize
-    ensures { λ r. ⌜ r ≡ cond m 3 4 ⌝ }
+// The kind of the amount that is quoted: h ≤, in the mirror h ≥.
+fn height_kind(mirror: bool) -> usize
+    ensures { λ r. ⌜ r ≡ cond mirror 3 4 ⌝ }
 {
-    if m { 3 } else { 4 }
+    if mirror { 3 } else { 4 }
 }
 
-fn said_height(b: &[i32; 256], m: bool, z: usize) -> Height
-    requires { ⌜ z < 64 ⌝ }
-    ensures { λ r. ⌜ r .0 ≡ cond m (board (now (b .entry)) z h-min) (board (now (b .entry)) z h-max) ⌝ }
-{
-    if m { h_min(b, z) } else { h_max(b, z) }
-}
-
-// The facts of one event appended, f saying which.
-fn write_quoted(d: &mut [i32], at: usize, b: &[i32; 256], q: Citing, z: usize, f: Quoted) -> usize
+// The facts of event z appended, f saying which.
+fn write_quoted(
+    d: &mut [i32],
+    at: usize,
+    b: &[i32; 256],
+    c: LevelCiting,
+    z: usize,
+    f: Quoted,
+) -> usize
     requires { ⌜
         (z < 64)
-        × Quotes q (board (now b)) z f
-        × (at + 3 * length (premises-of q (board (now b)) z) ≤ length (now d))
+        × Quotes c (board (now b)) z f
+        × (at + 3 * length (premises-of (level-cited c (board (now b))) (level-said c (board (now b))) z) ≤ length (now d))
         ⌝ }
-    ensures { λ r. ⌜ Appended at (premise-words (premises-of q (board (now (b .entry))) z)) (now (d .entry)) (now (d .exit)) r ⌝ }
+    ensures { λ end. ⌜
+        Appended at (premise-words (premises-of (level-cited c (board (now (b .entry)))) (level-said c (board (now (b .entry)))) z))
+        (now (d .entry)) (now (d .exit)) end
+        ⌝ }
 {
-    let m = q.mirror;
-    let t = said_lower(q, z);
-    let u = said_upper(q, z);
-    let h = said_height(b, m, z);
-    let second = put_premise(d, at, f.lower, z, 1, t.0);
-    let third = put_premise(d, second, f.upper, z, 2, u.0);
-    put_premise(d, third, f.height, z, height_kind(m), h.0)
+    let view = c.view;
+    let kind = height_kind(view.mirror);
+    let h = end_at(b, kind, z);
+    let second = put_premise(d, at, f.lower, z, 1, said_lower(c, z));
+    let third = put_premise(d, second, f.upper, z, 2, said_upper(c, z));
+    put_premise(d, third, f.height, z, kind, h)
 }
 
-// Those of an event other than e in a reservoir rule's slip: of a delivery its amount or its time, of a sure pull both, else none.
-fn write_other(d: &mut [i32], at: usize, b: &[i32; 256], q: Citing, z: usize) -> usize
+// Those of an event other than e: of a delivery its amount or its time, of a sure pull both, else none.
+fn write_other(d: &mut [i32], at: usize, b: &[i32; 256], c: LevelCiting, z: usize) -> usize
     requires { ⌜
         (z < 64)
         × Within (board (now b) z h-min) 9999
-        × (q .level ≡ true)
-        × (z ≡ q .lower → ⊥)
-        × (z ≡ q .upper → ⊥)
-        × (at + 3 * length (premises-of q (board (now b)) z) ≤ length (now d))
+        × (z ≡ c .view .subject → ⊥)
+        × (at + 3 * length (premises-of (level-cited c (board (now b))) (level-said c (board (now b))) z) ≤ length (now d))
         ⌝ }
-    ensures { λ r. ⌜ Appended at (premise-words (premises-of q (board (now (b .entry))) z)) (now (d .entry)) (now (d .exit)) r ⌝ }
+    ensures { λ end. ⌜
+        Appended at (premise-words (premises-of (level-cited c (board (now (b .entry)))) (level-said c (board (now (b .entry)))) z))
+        (now (d .entry)) (now (d .exit)) end
+        ⌝ }
 {
-    let m = q.mirror;
-    let target = q.target;
-    let p = place(b, q.strict, q.lower, q.from, q.to, z);
-    let h = side_h_max(b, m, z);
-    let spared = q.spares & (z == target);
+    let view = c.view;
+    let target = c.target;
+    let p = place(b, view, c.from, c.to, z);
+    let h = seen_h_max(b, view, z);
+    let spared = c.spares & (z == target);
     if produces(h) {
         let counted = p.sure | p.possible;
         let made = Quoted {
@@ -160,7 +164,7 @@ fn write_other(d: &mut [i32], at: usize, b: &[i32; 256], q: Citing, z: usize) ->
             upper: false,
             height: !spared & counted,
         };
-        write_quoted(d, at, b, q, z, made)
+        write_quoted(d, at, b, c, z, made)
     } else {
         let counted = surely_consumed(p, h);
         let taken = Quoted {
@@ -168,110 +172,81 @@ fn write_other(d: &mut [i32], at: usize, b: &[i32; 256], q: Citing, z: usize) ->
             upper: counted,
             height: !spared & counted,
         };
-        write_quoted(d, at, b, q, z, taken)
+        write_quoted(d, at, b, c, z, taken)
     }
 }
 
 // The facts of one event appended.
-fn write_event(d: &mut [i32], at: usize, b: &[i32; 256], q: Citing, z: usize) -> usize
+fn write_event(d: &mut [i32], at: usize, b: &[i32; 256], c: LevelCiting, z: usize) -> usize
     requires { ⌜
         (z < 64)
         × Within (board (now b) z h-min) 9999
-        × (at + 3 * length (premises-of q (board (now b)) z) ≤ length (now d))
+        × (at + 3 * length (premises-of (level-cited c (board (now b))) (level-said c (board (now b))) z) ≤ length (now d))
         ⌝ }
-    ensures { λ r. ⌜ Appended at (premise-words (premises-of q (board (now (b .entry))) z)) (now (d .entry)) (now (d .exit)) r ⌝ }
+    ensures { λ end. ⌜
+        Appended at (premise-words (premises-of (level-cited c (board (now (b .entry)))) (level-said c (board (now (b .entry)))) z))
+        (now (d .entry)) (now (d .exit)) end
+        ⌝ }
 {
-    if q.level {
-        let lower = q.lower;
-        let upper = q.upper;
-        if z != lower {
-            if z != upper {
-                return write_other(d, at, b, q, z);
-            }
-        }
+    let view = c.view;
+    if z != view.subject {
+        return write_other(d, at, b, c, z);
     }
-    write_quoted(d, at, b, q, z, quoted(b, q, z))
+    write_quoted(d, at, b, c, z, quoted(b, c, z))
 }
 
 // The facts of n events appended, event by event.
-fn write_events(d: &mut [i32], at: usize, b: &[i32; 256], n: usize, q: Citing) -> usize
+fn write_events(d: &mut [i32], at: usize, b: &[i32; 256], n: usize, c: LevelCiting) -> usize
     requires { ⌜
         Ranged n (board (now b))
-        × (at + 3 * length (premise-list n (cites-of q (board (now b))) (says-of q (board (now b)))) ≤ length (now d))
+        × (at + 3 * length (premise-list n (level-cited c (board (now b))) (level-said c (board (now b)))) ≤ length (now d))
         ⌝ }
-    ensures { λ r. ⌜
-        Appended at (premise-words (premise-list n (cites-of q (board (now (b .entry)))) (says-of q (board (now (b .entry))))))
-        (now (d .entry)) (now (d .exit)) r
+    ensures { λ end. ⌜
+        Appended at (premise-words (premise-list n (level-cited c (board (now (b .entry)))) (level-said c (board (now (b .entry))))))
+        (now (d .entry)) (now (d .exit)) end
         ⌝ }
 {
     let mut place = at;
     let mut z: usize = 0;
     while z < n {
-        place = write_event(d, place, b, q, z);
+        place = write_event(d, place, b, c, z);
         z += 1;
     }
     place
 }
 
-// The facts of a lag's slip whose t ≥ comes first, and those of one whose t ≤ does.
-fn write_lower_first(d: &mut [i32], at: usize, q: Citing) -> usize
-    requires { ⌜
-        (at + 3 * cond (q .starts) 1 0 + 3 * cond (q .ends) 1 0 ≤ length (now d))
-        × (q .lower < 64)
-        × (q .upper < 64)
-        ⌝ }
-    ensures { λ r. ⌜
-        Appended at (words-if (q .starts) (q .lower) 1 (q .from .0) ++ words-if (q .ends) (q .upper) 2 (q .to .0))
-        (now (d .entry)) (now (d .exit)) r
-        ⌝ }
+// A lag's two facts appended: t ≥ of a first where a comes no later than b, else t ≤ of b.
+fn write_lag(d: &mut [i32], at: usize, c: LagCiting) -> usize
+    requires { ⌜ (at + 3 * (cond (c .starts) 1 0 + cond (c .ends) 1 0) ≤ length (now d)) × (c .a < 64) × (c .b < 64) ⌝ }
+    ensures { λ end. ⌜ Appended at (lag-words c) (now (d .entry)) (now (d .exit)) end ⌝ }
 {
-    let t = q.from;
-    let u = q.to;
-    let second = put_premise(d, at, q.starts, q.lower, 1, t.0);
-    put_premise(d, second, q.ends, q.upper, 2, u.0)
+    let a = c.a;
+    let b = c.b;
+    let from = time_word(c.from);
+    let to = time_word(c.to);
+    if a <= b {
+        let second = put_premise(d, at, c.starts, a, 1, from);
+        put_premise(d, second, c.ends, b, 2, to)
+    } else {
+        let second = put_premise(d, at, c.ends, b, 2, to);
+        put_premise(d, second, c.starts, a, 1, from)
+    }
 }
 
-fn write_upper_first(d: &mut [i32], at: usize, q: Citing) -> usize
-    requires { ⌜
-        (at + 3 * cond (q .ends) 1 0 + 3 * cond (q .starts) 1 0 ≤ length (now d))
-        × (q .lower < 64)
-        × (q .upper < 64)
-        ⌝ }
-    ensures { λ r. ⌜
-        Appended at (words-if (q .ends) (q .upper) 2 (q .to .0) ++ words-if (q .starts) (q .lower) 1 (q .from .0))
-        (now (d .entry)) (now (d .exit)) r
-        ⌝ }
-{
-    let t = q.from;
-    let u = q.to;
-    let second = put_premise(d, at, q.ends, q.upper, 2, u.0);
-    put_premise(d, second, q.starts, q.lower, 1, t.0)
-}
-
-// The facts of a slip of n events appended: a lag's at once, all others event by event.
-pub fn write_premises(d: &mut [i32], at: usize, b: &[i32; 256], n: usize, q: Citing) -> usize
+// The facts of a slip of n events appended: a lag's at once, a reservoir rule's event by event.
+pub fn write_premises(d: &mut [i32], at: usize, b: &[i32; 256], n: usize, cited: Citing) -> usize
     requires { ⌜
         Ranged n (board (now b))
-        × (at + 3 * length (premise-list n (cites-of q (board (now b))) (says-of q (board (now b)))) ≤ length (now d))
+        × Known n cited
+        × (at + 3 * length (premise-list n (cites-of cited (board (now b))) (says-of cited (board (now b)))) ≤ length (now d))
         ⌝ }
-    ensures { λ r. ⌜
-        Appended at (premise-words (premise-list n (cites-of q (board (now (b .entry)))) (says-of q (board (now (b .entry))))))
-        (now (d .entry)) (now (d .exit)) r
+    ensures { λ end. ⌜
+        Appended at (premise-words (premise-list n (cites-of cited (board (now (b .entry)))) (says-of cited (board (now (b .entry))))))
+        (now (d .entry)) (now (d .exit)) end
         ⌝ }
 {
-    if !q.level {
-        let lower = q.lower;
-        let upper = q.upper;
-        if lower < upper {
-            if upper < n {
-                return write_lower_first(d, at, q);
-            }
-        }
-        if upper < lower {
-            if lower < n {
-                return write_upper_first(d, at, q);
-            }
-        }
+    match cited {
+        Citing::Lag(c) => write_lag(d, at, c),
+        Citing::Level(c) => write_events(d, at, b, n, c),
     }
-    write_events(d, at, b, n, q)
 }

@@ -6,7 +6,7 @@ use Rattle.facts.proofs.premises.family_latest.Statement.{statement}
 use Rattle.facts.proofs.premises.family_latest.Tie as tie
 
 latest-requires : tie.Need-latest-requires
-latest-requires c κs = let s = c .before in (s .pre .0 (c .if1 .taken), s .pre .1)
+latest-requires c κs = c .before .pre
 
 returns : tie.Need-returns
 returns c = let a = c .before .before .args in rw (c .before .if1 .taken) (c .latest .ensures)

@@ -4,23 +4,25 @@ use Prim.Native.Nat.{_≤_, _-_}
 use native.Mathlib.Omega.{arith}
 use Rattle.tables.specs.Board.{board}
 use Rattle.model.specs.Job.{h-min}
-use Rattle.model.specs.Levels.{side}
-use Rattle.facts.specs.Quotes.{Any, is-early, is-late}
+use Rattle.model.specs.Facts.{early, late}
+use Rattle.levels.specs.Values.{as-view, seen-by}
+use Rattle.facts.specs.Quotes.{Any}
 use Rattle.facts.proofs.Quoting.{any-none, any-more}
 use Rattle.facts.proofs.premises.others.Statement.{statement}
 use Rattle.facts.proofs.premises.others.Tie as tie
 
 abbrev Inv-loop : tie.InvT-loop
-Inv-loop b n m strict e u v found₀ y₀ found y = (y ≤ n) × Any y strict (side m (board b)) e (u .0) (v .0) found
+Inv-loop b view u v found₀ n y₀ found y = (y ≤ n) × Any y (as-view view) (seen-by view (board b)) (u .0) (v .0) found
 
 abbrev μ-loop : tie.MeasureT-loop
-μ-loop b n m strict e u v found₀ y₀ found y = n - y
+μ-loop b view u v found₀ n y₀ found y = n - y
 
 loop-holds : tie.Need-loop-holds Inv-loop μ-loop
 loop-holds c =
     let a = c .args in
-    let W = side (a .m) (board (a .b .now)) in
-    (omega arith, record { early = any-none (is-early (a .strict) W (a .e) (a .u .0) (a .v .0)); late = any-none (is-late (a .strict) W (a .e) (a .u .0) (a .v .0)) })
+    let E = as-view (a .view) in
+    let W = seen-by (a .view) (board (a .b .now)) in
+    (omega arith, record { early = any-none (early E W (a .u .0) (a .v .0)); late = any-none (late E W (a .u .0) (a .v .0)) })
 
 other-requires : tie.Need-other-requires Inv-loop μ-loop
 other-requires c κs = (omega arith, c .before .before .pre .range (c .before .loop .y) (omega arith) h-min)
@@ -38,17 +40,18 @@ loop-again : tie.Need-loop-again Inv-loop μ-loop
 loop-again c =
     let a = c .before .before .before .before .args in
     let l = c .before .before .before .loop in
-    let W = side (a .m) (board (a .b .now)) in
+    let E = as-view (a .view) in
+    let W = seen-by (a .view) (board (a .b .now)) in
     let o = c .before .other .ensures in (
       omega arith,
       record {
-        early = any-more (is-early (a .strict) W (a .e) (a .u .0) (a .v .0)) (l .y) (l .inv .1 .early) (o .early) (c .either .ensures .0);
-        late = any-more (is-late (a .strict) W (a .e) (a .u .0) (a .v .0)) (l .y) (l .inv .1 .late) (o .late) (c .either .ensures .1);
+        early = any-more (early E W (a .u .0) (a .v .0)) (l .y) (l .inv .1 .early) (o .early) (c .either .ensures .0);
+        late = any-more (late E W (a .u .0) (a .v .0)) (l .y) (l .inv .1 .late) (o .late) (c .either .ensures .1);
       },
     )
 
 returns : tie.Need-returns Inv-loop μ-loop
-returns c = let e : c .before .loop .y ≡ c .before .before .args .n = omega arith in rw e at (c .before .loop .inv .1)
+returns c = let e : c .before .loop .y ≡ c .before .before .args .view .events = omega arith in rw e at (c .before .loop .inv .1)
 
 pub others-spec : {M : Type 1} → statement M
 others-spec =

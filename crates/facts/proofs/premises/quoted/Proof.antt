@@ -1,9 +1,6 @@
 -- `facts::premises::quoted` tests which facts of an event a slip quotes. Assumes nothing.
-use mathlib.Core.Path.{ap}
-use mathlib.Core.Bool.{not, _&&_, _||_}
-use lib.Dec.{eqb}
 use Rattle.tables.specs.Board.{board}
-use Rattle.facts.proofs.Quoting.{early-at, late-at, targeted-at}
+use Rattle.facts.proofs.Quoting.{lower-at, upper-at, height-at}
 use borrow.Author.Needs.{needs}
 use Rattle.facts.proofs.premises.quoted.Statement.{statement}
 use Rattle.facts.proofs.premises.quoted.Tie as tie
@@ -11,8 +8,8 @@ use Rattle.facts.proofs.premises.quoted.Tie as tie
 place-requires : tie.Need-place-requires
 place-requires c κs = search needs
 
-side-h-max-requires : tie.Need-side-h-max-requires
-side-h-max-requires c κs = search needs
+seen-h-max-requires : tie.Need-seen-h-max-requires
+seen-h-max-requires c κs = search needs
 
 surely-consumed-requires : tie.Need-surely-consumed-requires
 surely-consumed-requires c κs = search needs
@@ -25,16 +22,16 @@ targeted-requires c κs = search needs
 
 returns : tie.Need-returns
 returns c =
-    let k = c .before .before .before .before .before .before .before .before .before in
-    let a = k .before .before .args in
-    let q = a .q in
-    let p = k .before .place .ensures in
-    let h = k .side-h-max .ensures in
+    let k = c .before .before .before .before in
+    let s = k .before .before .before .before .before .before in
+    let a = s .args in
     let W = board (a .b .now) in
+    let p = k .before .before .before .before .place .ensures in
+    let h = k .before .before .before .seen-h-max .ensures in
     record {
-      lower = ap (λ t. (eqb (a .z) (q .lower) && q .starts) || (q .level && t)) (late-at (q .mirror) (q .strict) W (q .lower) (q .from .0) (q .to .0) (a .z) p h (c .before .before .before .before .before .before .before .left-out .ensures));
-      upper = ap (λ t. (eqb (a .z) (q .upper) && q .ends) || (q .level && t)) (early-at (q .mirror) (q .strict) W (q .lower) (q .from .0) (q .to .0) (a .z) p h (c .before .before .before .before .before .before .before .before .surely-consumed .ensures));
-      height = ap (λ t. q .level && (not (q .spares && eqb (a .z) (q .target)) && t)) (targeted-at (q .mirror) (q .strict) W (q .lower) (q .from .0) (q .to .0) (a .z) p h (c .before .before .before .before .before .before .targeted .ensures));
+      lower = lower-at (a .c) W (a .z) p h (k .before .left-out .ensures);
+      upper = upper-at (a .c) W (a .z) p h (k .before .before .surely-consumed .ensures);
+      height = height-at (a .c) W (a .z) p h (k .targeted .ensures);
     }
 
 pub quoted-spec : {M : Type 1} → statement M
@@ -42,7 +39,7 @@ quoted-spec =
     tie.close
     (tie.spec
     place-requires
-    side-h-max-requires
+    seen-h-max-requires
     surely-consumed-requires
     left-out-requires
     targeted-requires

@@ -15,35 +15,16 @@ own-kind-requires c κs = search needs
 enum-told-3 : tie.Need-enum-told-3
 enum-told-3 c = search needs
 
-own-kind-requires-2 : tie.Need-own-kind-requires-2
-own-kind-requires-2 c κs = search needs
-
-enum-told-4 : tie.Need-enum-told-4
-enum-told-4 c = search needs
-
 returns : tie.Need-returns
 returns c = search needs
 
 returns-2 : tie.Need-returns-2
-returns-2 c = rw (c .before .enum-told2 .given .1) (c .own-kind .ensures)
+returns-2 c = let k = c .own-kind .ensures in rw (c .before .enum-told2 .given .1) (k .0, k .3)
 
 returns-3 : tie.Need-returns-3
-returns-3 c = rw (c .before .enum-told3 .given .1) (c .own-kind2 .ensures)
-
-returns-4 : tie.Need-returns-4
-returns-4 c = search needs
+returns-3 c = search needs
 
 pub concluded-kind-spec : {M : Type 1} → statement M
 concluded-kind-spec =
     tie.close
-    (tie.spec
-    enum-told
-    enum-told-2
-    own-kind-requires
-    enum-told-3
-    own-kind-requires-2
-    enum-told-4
-    returns
-    returns-2
-    returns-3
-    returns-4)
+    (tie.spec enum-told enum-told-2 own-kind-requires enum-told-3 returns returns-2 returns-3)

@@ -16,7 +16,7 @@ sub-if1 : tie.Need-sub-if1
 sub-if1 c = search needs
 
 returns : tie.Need-returns
-returns c = let a = c .before .args in closes-no (a .list .now) (a .stop) (a .p) (a .m) (omega arith)
+returns c = let a = c .before .args in closes-no (a .list .now) (a .stop) (a .p) (a .count) (omega arith)
 
 mul-word-at : tie.Need-mul-word-at
 mul-word-at c = search needs
@@ -34,7 +34,7 @@ word-is-requires : tie.Need-word-is-requires
 word-is-requires c κs = search needs
 
 returns-2 : tie.Need-returns-2
-returns-2 c = let a = c .before .before .before .args in closes-yes (a .list .now) (a .stop) (a .p) (a .m) (omega arith) (c .before .word-at .ensures) (c .word-is .ensures)
+returns-2 c = let a = c .before .before .before .args in closes-yes (a .list .now) (a .stop) (a .p) (a .count) (omega arith) (c .before .word-at .ensures) (c .word-is .ensures)
 
 pub closes-spec : {M : Type 1} → statement M
 closes-spec =

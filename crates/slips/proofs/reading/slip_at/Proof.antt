@@ -1,6 +1,6 @@
 -- `slips::reading::slip_at` meets its contract.
 -- Assumes nothing.
-use Rattle.model.specs.Reader.{premise-count}
+use Rattle.model.specs.Slips.{premise-count}
 use Prim.Native.Nat.{_+_, _*_}
 use mathlib.Core.Path.{_≡_, refl, ap}
 use Rattle.slips.proofs.Sizing.{slip-is, stands-is}

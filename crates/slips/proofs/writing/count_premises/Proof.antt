@@ -1,63 +1,45 @@
--- `slips::writing::count_premises` counts the facts event by event. The loop's invariant: the count is that of the first z events. Assumes nothing.
-use mathlib.Core.Path.{_≡_, ap, _∙_, sym}
-use Prim.Native.Nat.{_≤_, _-_, _*_}
-use native.Mathlib.Omega.{arith}
-use lib.ListN.{length}
-use Rattle.tables.specs.Board.{board}
-use Rattle.model.specs.Job.{h-min}
-use Rattle.model.specs.Slips.{premise-list}
-use Rattle.facts.specs.Quotes.{cites-of, says-of}
-use Rattle.slips.proofs.Filling.{premises-none, length-more, event-count}
+-- `slips::writing::count_premises` counts a lag's two facts, or those of all events. Assumes nothing.
+use borrow.Author.Needs.{needs}
+use Rattle.slips.proofs.Filling.{lag-length}
 use Rattle.slips.proofs.writing.count_premises.Statement.{statement}
 use Rattle.slips.proofs.writing.count_premises.Tie as tie
 
-abbrev Inv-loop : tie.InvT-loop
-Inv-loop b n q count₀ z₀ count z = (z ≤ n) × (count ≡ length (premise-list z (cites-of q (board b)) (says-of q (board b)))) × (count ≤ 3 * z)
+enum-known-cited : tie.Need-enum-known-cited
+enum-known-cited c = search needs
 
-abbrev μ-loop : tie.MeasureT-loop
-μ-loop b n q count₀ z₀ count z = n - z
+one-requires : tie.Need-one-requires
+one-requires c κs = search needs
 
-loop-holds : tie.Need-loop-holds Inv-loop μ-loop
-loop-holds c = let a = c .args in (omega arith, ap length (premises-none (a .q) (board (a .b .now))), omega arith)
+one-requires-2 : tie.Need-one-requires-2
+one-requires-2 c κs = search needs
 
-quoted-requires : tie.Need-quoted-requires Inv-loop μ-loop
-quoted-requires c κs = (omega arith, c .before .before .pre .range (c .before .loop .z) (omega arith) h-min)
+add-result : tie.Need-add-result
+add-result c = search needs
 
-tally-requires : tie.Need-tally-requires Inv-loop μ-loop
-tally-requires c κs = tt
+enum-known-cited-2 : tie.Need-enum-known-cited-2
+enum-known-cited-2 c = search needs
 
-add-count : tie.Need-add-count Inv-loop μ-loop
-add-count c = omega arith
+count-events-requires : tie.Need-count-events-requires
+count-events-requires c κs = search needs
 
-add-z : tie.Need-add-z Inv-loop μ-loop
-add-z c = omega arith
+returns : tie.Need-returns
+returns c =
+    let a = c .before .before .before .before .before .args in
+    let e = c .before .before .before .cited .given .1 in
+    rw (e, lag-length (c .before .before .before .cited .given .0 .0) (a .n) (rw e at (c .before .before .before .before .before .pre .1)), c .before .one .ensures .0, c .one2 .ensures .0)
 
-loop-less : tie.Need-loop-less Inv-loop μ-loop
-loop-less c = omega arith
-
-loop-again : tie.Need-loop-again Inv-loop μ-loop
-loop-again c =
-    let a = c .before .before .before .before .args in
-    let l = c .before .before .before .loop in
-    let W = board (a .b .now) in
-    let f = c .before .quoted .ensures in
-    let t = c .tally .ensures .0 ∙ sym (event-count (a .q) W (l .z) (f .lower) (f .upper) (f .height)) in
-    (omega arith, omega (arith, length-more (a .q) W (l .z)), omega arith)
-
-returns : tie.Need-returns Inv-loop μ-loop
-returns c = let e : c .before .loop .z ≡ c .before .before .args .n = omega arith in rw e at (c .before .loop .inv .1)
+returns-2 : tie.Need-returns-2
+returns-2 c = rw (c .before .before .cited2 .given .1) (c .count-events .ensures)
 
 pub count-premises-spec : {M : Type 1} → statement M
 count-premises-spec =
     tie.close
     (tie.spec
-    Inv-loop
-    μ-loop
-    loop-holds
-    quoted-requires
-    tally-requires
-    add-count
-    add-z
-    loop-less
-    loop-again
-    returns)
+    enum-known-cited
+    one-requires
+    one-requires-2
+    add-result
+    enum-known-cited-2
+    count-events-requires
+    returns
+    returns-2)

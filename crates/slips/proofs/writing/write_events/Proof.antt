@@ -5,20 +5,20 @@ use native.Mathlib.Omega.{arith}
 use Rattle.tables.specs.Board.{board}
 use Rattle.model.specs.Job.{h-min}
 use Rattle.model.specs.Slips.{premise-words, premise-list}
-use Rattle.facts.specs.Quotes.{cites-of, says-of}
+use Rattle.facts.specs.Quotes.{level-cited, level-said}
 use Rattle.slips.specs.Words.{Appended}
 use Rattle.slips.proofs.Filling.{words-length, words-start, words-more, room-for}
 use Rattle.slips.proofs.writing.write_events.Statement.{statement}
 use Rattle.slips.proofs.writing.write_events.Tie as tie
 
 abbrev Inv-loop : tie.InvT-loop
-Inv-loop d₀ at b n q place₀ z₀ d place z = (z ≤ n) × Appended at (premise-words (premise-list z (cites-of q (board b)) (says-of q (board b)))) d₀ d place
+Inv-loop d₀ at b n c place₀ z₀ d place z = (z ≤ n) × Appended at (premise-words (premise-list z (level-cited c (board b)) (level-said c (board b)))) d₀ d place
 
 abbrev μ-loop : tie.MeasureT-loop
-μ-loop d₀ at b n q place₀ z₀ d place z = n - z
+μ-loop d₀ at b n c place₀ z₀ d place z = n - z
 
 loop-holds : tie.Need-loop-holds Inv-loop μ-loop
-loop-holds c = let a = c .args in (omega arith, words-start (a .q) (board (a .b .now)) (a .at) (a .d .now))
+loop-holds c = let a = c .args in (omega arith, words-start (level-cited (a .c) (board (a .b .now))) (level-said (a .c) (board (a .b .now))) (a .at) (a .d .now))
 
 write-event-requires : tie.Need-write-event-requires Inv-loop μ-loop
 write-event-requires c κs =
@@ -29,7 +29,7 @@ write-event-requires c κs =
     let e = l .inv .1 in (
       omega arith,
       s .pre .0 .range (l .z) (c .before .loop-test .taken) h-min,
-      omega (arith, words-length (premise-list (l .z) (cites-of (a .q) W) (says-of (a .q) W)), room-for (a .q) W (c .before .loop-test .taken)),
+      omega (arith, words-length (premise-list (l .z) (level-cited (a .c) W) (level-said (a .c) W)), room-for (level-cited (a .c) W) (level-said (a .c) W) (c .before .loop-test .taken)),
     )
 
 add-z : tie.Need-add-z Inv-loop μ-loop
@@ -42,7 +42,7 @@ loop-again : tie.Need-loop-again Inv-loop μ-loop
 loop-again c =
     let a = c .before .before .before .before .before .args in
     let l = c .before .before .before .before .loop in
-    (omega arith, words-more (a .q) (board (a .b .now)) (l .z) (l .inv .1) (c .before .write-event .ensures))
+    (omega arith, words-more (level-cited (a .c) (board (a .b .now))) (level-said (a .c) (board (a .b .now))) (l .z) (l .inv .1) (c .before .write-event .ensures))
 
 same-length : tie.Need-same-length Inv-loop μ-loop
 same-length c = c .before .loop .inv .1 .same

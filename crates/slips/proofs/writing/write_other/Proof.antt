@@ -8,38 +8,28 @@ use Rattle.slips.proofs.writing.write_other.Tie as tie
 place-requires : tie.Need-place-requires
 place-requires c κs = search needs
 
-side-h-max-requires : tie.Need-side-h-max-requires
-side-h-max-requires c κs = search needs
+seen-h-max-requires : tie.Need-seen-h-max-requires
+seen-h-max-requires c κs = search needs
 
 produces-requires : tie.Need-produces-requires
 produces-requires c κs = search needs
 
 write-quoted-requires : tie.Need-write-quoted-requires
 write-quoted-requires c κs =
-    let k = c .before .before .before in
-    let s = k .before .before .before .before in
-    let a = s .args in
-    let p = k .before .before .before .place in (
-      s .pre .0,
-      quotes-made (a .q) (board (a .b .now)) (a .z) (s .pre .2) (s .pre .3) (s .pre .4) (p .result .sure) (p .result .possible) (k .before .before .side-h-max .result .0)
-          (p .ensures) (k .before .before .side-h-max .ensures) (k .produces .ensures) (c .before .before .if1 .taken),
-      s .pre .5,
-    )
+    let a = c .before .before .before .before .before .before .before .before .args in
+    let p = c .before .before .before .before .before .before .place in
+    let h = c .before .before .before .before .before .seen-h-max in
+    (c .before .before .before .before .before .before .before .before .pre .0, quotes-made (a .c) (board (a .b .now)) (a .z) (c .before .before .before .before .before .before .before .before .pre .2) (p .result .sure) (p .result .possible) (h .result .0) (p .ensures) (h .ensures) (c .before .before .before .produces .ensures) (c .before .before .if1 .taken), c .before .before .before .before .before .before .before .before .pre .3)
 
 surely-consumed-requires : tie.Need-surely-consumed-requires
 surely-consumed-requires c κs = search needs
 
 write-quoted-requires-2 : tie.Need-write-quoted-requires-2
 write-quoted-requires-2 c κs =
-    let k = c .before .before .before in
-    let s = k .before .before .before .before in
-    let a = s .args in
-    let p = k .before .before .before .place in (
-      s .pre .0,
-      quotes-taken (a .q) (board (a .b .now)) (a .z) (s .pre .2) (s .pre .3) (s .pre .4) (p .result .sure) (p .result .possible) (k .before .before .side-h-max .result .0)
-          (p .ensures) (k .before .before .side-h-max .ensures) (k .produces .ensures) (c .before .before .if1 .left) (c .before .surely-consumed .ensures),
-      s .pre .5,
-    )
+    let a = c .before .before .before .before .before .before .before .before .args in
+    let p = c .before .before .before .before .before .before .place in
+    let h = c .before .before .before .before .before .seen-h-max in
+    (c .before .before .before .before .before .before .before .before .pre .0, quotes-taken (a .c) (board (a .b .now)) (a .z) (c .before .before .before .before .before .before .before .before .pre .2) (p .result .sure) (p .result .possible) (h .result .0) (p .ensures) (h .ensures) (c .before .before .before .produces .ensures) (c .before .before .if1 .left) (c .before .surely-consumed .ensures), c .before .before .before .before .before .before .before .before .pre .3)
 
 same-length : tie.Need-same-length
 same-length c = search needs
@@ -58,7 +48,7 @@ write-other-spec =
     tie.close
     (tie.spec
     place-requires
-    side-h-max-requires
+    seen-h-max-requires
     produces-requires
     write-quoted-requires
     surely-consumed-requires
