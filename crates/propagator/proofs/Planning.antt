@@ -2,31 +2,32 @@
 -- Assumes nothing.
 use mathlib.Core.Path.{_≡_, refl, sym, ap, _∙_}
 use mathlib.Core.List.{List, _++_, append-assoc}
-use Prim.Native.Nat.{ℕ, _+_, _*_, _/_, _≤_}
+use Prim.Native.Nat.{ℕ, _+_, _*_, _≤_}
 use native.Mathlib.Omega.{arith}
 use lib.IntN.{ℤ}
 use lib.ListN.{length, take, drop, take-append-drop}
 use lib.Seq.{length-take-le}
-use Rattle.model.specs.Job.{windows, Job, job, lags}
+use Rattle.model.specs.Job.{windows, events, sent, Job as Call}
+use Rattle.model.specs.Standing.{Ranged}
 use Rattle.model.specs.Slips.{trailer}
 use Rattle.model.specs.Rounds.{run, start}
 use Rattle.model.specs.Questions.{pass, questions}
 use Rattle.model.specs.Planner.{done, planned, plan}
-use Rattle.model.proofs.Questions.{Asked, asked}
+use Rattle.model.proofs.Questions.{asked}
 use Rattle.model.proofs.Ranges.{end-range}
-use Rattle.model.proofs.Standing.{Sane}
 use Rattle.tables.specs.Board.{table-of, Loaded}
+use Rattle.tables.specs.Job.{Holds, Fit}
+use Rattle.tables.specs.declared.Job.{Job}
+use Rattle.tables.proofs.Holding.{fit-of}
 use Rattle.questions.specs.Asked.{check-of}
 use Rattle.questions.specs.declared.Check.{Check}
 use Rattle.questions.specs.declared.Check.the-variants.{Pass, Refuse}
 use Rattle.questions.specs.declared.Refusal.{Refusal}
 use Rattle.tables.proofs.Board.{windows-board}
-use Rattle.levels.specs.Values.{Ranged}
 use Rattle.slips.specs.Words.{Appended}
-use Rattle.rounds.specs.State.{job-at, Held}
+use Rattle.rounds.specs.State.{Held}
 use Rattle.propagator.specs.Runs.{fresh, verdict-of, run-of, Ran}
-use Rattle.propagator.specs.Plans.{reply-of, task-of, Outcomes}
-use Rattle.rounds.specs.declared.Job.{Job as Task}
+use Rattle.propagator.specs.Plans.{reply-of, Outcomes}
 use Rattle.propagator.specs.declared.Answer.{Answer}
 use Rattle.propagator.specs.declared.Answer.the-variants.{Refused}
 use Rattle.propagator.specs.declared.Ended.{Ended}
@@ -48,12 +49,12 @@ held-start {n} {table} {b} buffer l r low high =
 
 -- ---- what the call leaves
 
-module _ {n : ℕ} {j : Job} {table b buffer b′ buffer′ : List ℤ} {e : Ended} (l : Loaded n table b) (r : Ran n j b buffer b′ buffer′ e) where
+module _ {k : Job} {ws table b buffer b′ buffer′ : List ℤ} {e : Ended} (l : Loaded (k .events) table b) (r : Ran k ws b buffer b′ buffer′ e) where
   log-length : length (take (e .progress .used) buffer′) ≡ e .progress .used
-  log-length = length-take-le (e .progress .used) buffer′ (omega arith)
+  log-length = length-take-le (e .progress .used) buffer′ (omega (arith, r .grown .held .trailer-fits))
 
-  run-is : run-of n b′ buffer′ e ≡ run (length buffer) j (length buffer) 0 (start table)
-  run-is = r .is ∙ rw (l .is)
+  run-is : (j : Call) → Holds k ws j → run-of (k .events) b′ buffer′ e ≡ run (length buffer) j (length buffer) 0 (start table)
+  run-is j h = r .is j h ∙ rw (l .is)
 
   -- With the trailer the list ends as it must, and words after it are the caller's.
   module _ {buffer″ : List ℤ} {end : ℕ} (t : Appended (e .progress .used) (trailer (e .progress .slips) (e .progress .last)) buffer′ buffer″ end) where
@@ -65,44 +66,35 @@ module _ {n : ℕ} {j : Job} {table b buffer b′ buffer′ : List ℤ} {e : End
         let kept : drop end buffer″ ≡ drop (used + 3) buffer = t .rest ∙ rw (t .place) after in
         sym (take-append-drop end buffer″) ∙ rw (t .is, kept, log-length) (append-assoc (take used buffer′) words (drop (used + 3) buffer))
 
-    pub outcome : {table″ : List ℤ} {a : Answer} → table″ ≡ table-of n b′ → reply-of a ≡ done (verdict-of (e .verdict)) (e .progress .slips) (e .rounds) end
-        → Outcomes (planned (run (length buffer) j (length buffer) 0 (start table)) buffer) table″ buffer″ a
-    outcome q s =
-        rw (← run-is)
+    pub outcome : {table″ : List ℤ} {a : Answer} → table″ ≡ table-of (k .events) b′ → reply-of a ≡ done (verdict-of (e .verdict)) (e .progress .slips) (e .rounds) end
+        → (j : Call) → Holds k ws j → Outcomes (planned (run (length buffer) j (length buffer) 0 (start table)) buffer) table″ buffer″ a
+    outcome q s j h =
+        rw (← run-is j h)
         (record {
           answer = rw (log-length, ← t .place) s;
           windows = q;
           slips = written-is;
         })
 
--- ---- the questions
-
-module _ (h low high q : ℤ) (table lags : List ℤ) (room : ℕ) (e : questions (job h low high q table lags) table room ≡ pass) where
-  -- What a call that passed is asked on the way.
-  pub passed : Asked h low high q table lags room
-  passed = asked h low high q table lags room e
-
-  pub in-range : Ranged (length table / 4) (windows table)
-  in-range = record { few = passed .sane .few-events; range = end-range (passed .sane) (passed .standing) }
-
 -- ---- the planner
 
-module _ (h low high q : ℤ) (table lags buffer : List ℤ) {x : Check} (e : check-of x ≡ questions (job h low high q table lags) table (length buffer)) where
-  pub plan-refused : {r : Refusal} → x ≡ Refuse r → Outcomes (plan h low high q table lags buffer) table buffer (Refused r)
+-- A call, the job at hand that is of it, and what its questions came to.
+module _ (j : Call) (buffer : List ℤ) {k : Job} {x : Check} (h : Holds k (j .lag-table) j) (e : check-of x ≡ questions j (length buffer)) where
+  pub plan-refused : {r : Refusal} → x ≡ Refuse r → Outcomes (plan j buffer) (j .window-table) buffer (Refused r)
   unfolding plan
   plan-refused f = let g = sym e ∙ ap check-of f in rw (plan, g) (record { answer = refl; windows = refl; slips = refl })
 
-  module _ {k : Task} (t : k ≡ task-of h low high q (length table / 4)) (f : x ≡ Pass) where
-    passes : questions (job h low high q table lags) table (length buffer) ≡ pass
+  module _ (f : x ≡ Pass) where
+    passes : questions j (length buffer) ≡ pass
     passes = sym e ∙ ap check-of f
 
-    pub plan-asks : Sane (job-at k lags) × (length table ≡ 4 * k .events) × Ranged (k .events) (windows table) × (3 ≤ length buffer) × (length buffer ≤ 1000000)
+    pub plan-asks : Fit k (j .lag-table) × (length (j .window-table) ≡ 4 * k .events) × Ranged (k .events) (windows (j .window-table)) × (3 ≤ length buffer) × (length buffer ≤ 1000000)
     plan-asks =
-        let a = passed h low high q table lags (length buffer) passes in
-        rw t
-        (a .sane, a .whole-events, in-range h low high q table lags (length buffer) passes, a .room-low, a .room-high)
+        let a = asked j (length buffer) passes in
+        let ranged : Ranged (events j) (sent j) = record { few = a .sane .few-events; range = end-range (a .sane) (a .standing) } in
+        (fit-of h (a .sane), a .whole-events ∙ rw (h .events-are), rw (h .events-are) at ranged, a .room-low, a .room-high)
 
-    pub plan-passed : {table′ buffer′ : List ℤ} {a : Answer} → Outcomes (planned (run (length buffer) (job-at k lags) (length buffer) 0 (start table)) buffer) table′ buffer′ a
-        → Outcomes (plan h low high q table lags buffer) table′ buffer′ a
+    pub plan-passed : {table′ buffer′ : List ℤ} {a : Answer} → Outcomes (planned (run (length buffer) j (length buffer) 0 (start (j .window-table))) buffer) table′ buffer′ a
+        → Outcomes (plan j buffer) table′ buffer′ a
     unfolding plan
-    plan-passed o = let o′ = rw t at o in rw (plan, passes) o′
+    plan-passed o = rw (plan, passes) o

@@ -1,6 +1,6 @@
 -- Rounds one after the other: the run that is left from here, with the fuel that is left, is the whole run. Fuel is left, since every round before wrote a slip.
 -- Assumes nothing.
-use mathlib.Core.Path.{_≡_, refl, sym, _∙_}
+use mathlib.Core.Path.{_≡_, sym, _∙_}
 use mathlib.Core.Bool.{Bool, true, false, not}
 use mathlib.Core.List.{List}
 use Prim.Native.Nat.{ℕ, suc, _+_, _-_, _≤_}
@@ -10,19 +10,23 @@ use borrow.Author.Tests.{eq-eqb, ne-eqb, not-true, not-false}
 use lib.Dec.{eqb}
 use lib.IntN.{ℤ}
 use lib.ListN.{length}
-use Rattle.model.specs.Job.{Job}
+use Rattle.model.specs.Job.{Job as Call}
+use Rattle.model.specs.Agenda.{agenda}
 use Rattle.model.specs.Rounds as model
 use Rattle.model.specs.Rounds.{State, Run, running, ended, settled, round, run, start}
 use Rattle.tables.specs.Board.{table-of}
+use Rattle.tables.specs.Job.{Holds}
+use Rattle.tables.specs.declared.Job.{Job}
 use Rattle.rounds.specs.State.{status-of, still, state-of, Held, Grown, Made}
 use Rattle.propagator.specs.Runs.{fresh, verdict-of, Tested, Ran}
 use Rattle.rounds.proofs.Moves.{grown-none, grown-more}
+use Rattle.rounds.proofs.Trying.{still-running}
 use Rattle.rounds.specs.declared.Progress.{Progress}
 use Rattle.rounds.specs.declared.Status.{Status}
 use Rattle.propagator.specs.declared.Verdict.{Verdict}
 use Rattle.propagator.specs.declared.Verdict.the-variants.{Settled}
 
--- ---- one round of the model's run
+-- ---- one round of a run
 
 -- What a round that leaves the state next, with its status x, makes of a run, with whether it wrote no slip and with the rest of the run.
 abbrev decided : State → ℕ → model.Status → Bool → Run → Run
@@ -35,7 +39,7 @@ decided next rounds x none rest =
       ]
     ]
 
-module _ (room : ℕ) (j : Job) (fuel rounds : ℕ) (s : State) {next : State} (e : next ≡ round room j s) where
+module _ (room : ℕ) (j : Call) (fuel rounds : ℕ) (s : State) {next : State} (e : next ≡ round room j s) where
   run-decided : run room j (suc fuel) rounds s ≡ decided next rounds (next .status) (eqb (next .slips) (s .slips)) (run room j fuel (rounds + 1) next)
   unfolding run
   run-decided = rw e
@@ -49,56 +53,54 @@ module _ (room : ℕ) (j : Job) (fuel rounds : ℕ) (s : State) {next : State} (
   run-goes : next .status ≡ running → (next .slips ≡ s .slips → ⊥) → run room j fuel (rounds + 1) next ≡ run room j (suc fuel) rounds s
   run-goes h k = rw (run-decided, h, ne-eqb (next .slips) (s .slips) k)
 
-still-running : (x : model.Status) → still x ≡ true → x ≡ running
-still-running running e = refl
-still-running (ended v) e = cc
-
 -- ---- the code's
 
 -- After some rounds, each of which wrote a slip: what is left of the run.
-pub record Rolling (n : ℕ) (j : Job) (b₀ buffer₀ b buffer : List ℤ) (p : Progress) (rounds : ℕ) : Type 0 where
-  pub is : run (length buffer₀) j (length buffer₀ - rounds) rounds (state-of n b buffer p) ≡ run (length buffer₀) j (length buffer₀) 0 (start (table-of n b₀))
-  pub grown : Grown n buffer₀ fresh b buffer p
+pub record Rolling (k : Job) (ws b₀ buffer₀ b buffer : List ℤ) (p : Progress) (rounds : ℕ) : Type 0 where
+  pub is : (j : Call) → Holds k ws j → run (length buffer₀) j (length buffer₀ - rounds) rounds (state-of (k .events) b buffer p) ≡ run (length buffer₀) j (length buffer₀) 0 (start (table-of (k .events) b₀))
+  pub grown : Grown (k .events) buffer₀ fresh b buffer p
   pub begun : rounds ≤ p .slips
 
-pub rolling-start : {n : ℕ} (j : Job) {b buffer : List ℤ} {p : Progress} → Held n b buffer fresh → p ≡ fresh → Rolling n j b buffer b buffer p 0
-rolling-start j h e = rw e (record { is = rw sub-zero; grown = grown-none h; begun = omega arith })
+pub rolling-start : (k : Job) (ws : List ℤ) {b buffer : List ℤ} {p : Progress} → Held (k .events) b buffer fresh → p ≡ fresh → Rolling k ws b buffer b buffer p 0
+rolling-start k ws h e = rw e (record { is = λ j q. rw sub-zero; grown = grown-none h; begun = omega arith })
 
-module _ {n : ℕ} {j : Job} {b₀ buffer₀ b buffer : List ℤ} {p : Progress} {rounds : ℕ} {b′ buffer′ : List ℤ} {q : Progress}
-    (l : Rolling n j b₀ buffer₀ b buffer p rounds) (m : Made n (round (length buffer) j) b buffer p b′ buffer′ q) where
-  made : state-of n b′ buffer′ q ≡ round (length buffer₀) j (state-of n b buffer p)
-  made = m .is ∙ rw (l .grown .same)
+module _ {k : Job} {ws b₀ buffer₀ b buffer : List ℤ} {p : Progress} {rounds : ℕ} {b′ buffer′ : List ℤ} {q : Progress}
+    (l : Rolling k ws b₀ buffer₀ b buffer p rounds) (m : Made k ws agenda b buffer p b′ buffer′ q) where
+  next-is : (j : Call) → Holds k ws j → state-of (k .events) b′ buffer′ q ≡ round (length buffer₀) j (state-of (k .events) b buffer p)
+  next-is j h = m .is j h ∙ rw (l .grown .same)
 
   fuel-left : length buffer₀ - rounds ≡ suc (length buffer₀ - (rounds + 1))
-  fuel-left = omega arith
+  fuel-left = omega (arith, l .begun, l .grown .held .counted, l .grown .held .trailer-fits, l .grown .same)
 
-  whole-run : {r : Run} → r ≡ run (length buffer₀) j (suc (length buffer₀ - (rounds + 1))) rounds (state-of n b buffer p) → r ≡ run (length buffer₀) j (length buffer₀) 0 (start (table-of n b₀))
-  whole-run h = h ∙ (rw fuel-left at (l .is))
+  whole-run : (j : Call) → Holds k ws j → {r : Run} → r ≡ run (length buffer₀) j (suc (length buffer₀ - (rounds + 1))) rounds (state-of (k .events) b buffer p) → r ≡ run (length buffer₀) j (length buffer₀) 0 (start (table-of (k .events) b₀))
+  whole-run j o h = h ∙ (rw fuel-left at (l .is j o))
 
-  pub rolling-ends : {t : Bool} {v : Verdict} → t ≡ still (status-of (q .status)) → not t ≡ true → Tested q v → Ran n j b₀ buffer₀ b′ buffer′ (record { verdict = v; rounds = rounds + 1; progress = q })
-  rolling-ends {t} h k v =
-      let off = sym h ∙ not-true t k in
+  pub rolling-ends : {t : Bool} {v : Verdict} → t ≡ still (status-of (q .status)) → not t ≡ true → Tested q v → Ran k ws b₀ buffer₀ b′ buffer′ (record { verdict = v; rounds = rounds + 1; progress = q })
+  rolling-ends {t} h f v =
+      let off = sym h ∙ not-true t f in
       record {
-        is = whole-run (run-ends (length buffer₀) j (length buffer₀ - (rounds + 1)) rounds (state-of n b buffer p) made (v .is off));
+        is = λ j o. whole-run j o (run-ends (length buffer₀) j (length buffer₀ - (rounds + 1)) rounds (state-of (k .events) b buffer p) (next-is j o) (v .is off));
         grown = grown-more (l .grown) (m .grown);
       }
 
-  pub rolling-settles : {t : Bool} → t ≡ still (status-of (q .status)) → not t ≡ false → q .slips ≡ p .slips → Ran n j b₀ buffer₀ b′ buffer′ (record { verdict = Settled; rounds = rounds + 1; progress = q })
-  rolling-settles {t} h k e =
-      let on = still-running (status-of (q .status)) (sym h ∙ not-false t k) in
-      record {
-        is = whole-run (run-settles (length buffer₀) j (length buffer₀ - (rounds + 1)) rounds (state-of n b buffer p) made on e);
-        grown = grown-more (l .grown) (m .grown);
-      }
+  module _ {t : Bool} (h : t ≡ still (status-of (q .status))) (f : not t ≡ false) where
+    on : status-of (q .status) ≡ running
+    on = still-running (status-of (q .status)) (sym h ∙ not-false t f)
 
-  pub rolling-on : {t : Bool} → t ≡ still (status-of (q .status)) → not t ≡ false → (q .slips ≡ p .slips → ⊥) → Rolling n j b₀ buffer₀ b′ buffer′ q (rounds + 1)
-  rolling-on {t} h k e =
-      let on = still-running (status-of (q .status)) (sym h ∙ not-false t k) in
-      record {
-        is = whole-run (run-goes (length buffer₀) j (length buffer₀ - (rounds + 1)) rounds (state-of n b buffer p) made on e);
-        grown = grown-more (l .grown) (m .grown);
-        begun = omega arith;
-      }
+    pub rolling-settles : q .slips ≡ p .slips → Ran k ws b₀ buffer₀ b′ buffer′ (record { verdict = Settled; rounds = rounds + 1; progress = q })
+    rolling-settles e =
+        record {
+          is = λ j o. whole-run j o (run-settles (length buffer₀) j (length buffer₀ - (rounds + 1)) rounds (state-of (k .events) b buffer p) (next-is j o) on e);
+          grown = grown-more (l .grown) (m .grown);
+        }
+
+    pub rolling-on : (q .slips ≡ p .slips → ⊥) → Rolling k ws b₀ buffer₀ b′ buffer′ q (rounds + 1)
+    rolling-on e =
+        record {
+          is = λ j o. whole-run j o (run-goes (length buffer₀) j (length buffer₀ - (rounds + 1)) rounds (state-of (k .events) b buffer p) (next-is j o) on e);
+          grown = grown-more (l .grown) (m .grown);
+          begun = omega (arith, l .begun, m .grown .more);
+        }
 
 -- The verdict of a call that has ended, by its status.
 pub verdict-is : {p : Progress} {x : Status} {v : Verdict} → p .status ≡ x → (still (status-of x) ≡ false → status-of x ≡ ended (verdict-of v)) → Tested p v

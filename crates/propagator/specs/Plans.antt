@@ -1,22 +1,11 @@
 -- The planner's answer read as document 01's reply.
 use mathlib.Core.Path.{_≡_}
 use mathlib.Core.List.{List}
-use Prim.Native.Nat.{ℕ}
 use lib.IntN.{ℤ}
 use Rattle.model.specs.Rounds.{settled, conflict, stopped}
 use Rattle.model.specs.Planner.{Reply, refused, done, Outcome}
-use Rattle.rounds.specs.declared.Job.{Job}
 use Rattle.propagator.specs.declared.Answer.{Answer}
 use Rattle.propagator.specs.declared.Answer.the-variants.{Settled, Conflict, Stopped, Refused}
-
--- The job of a call of n events.
-abbrev pub task-of : ℤ → ℤ → ℤ → ℤ → ℕ → Job
-task-of h low high q n =
-    record {
-      horizon = record { 0 = h };
-      reservoir = record { low = record { 0 = low }; high = record { 0 = high }; initial = record { 0 = q } };
-      events = n;
-    }
 
 -- The verdict with slips, rounds and length; or refused, with number and place.
 abbrev pub reply-of : Answer → Reply

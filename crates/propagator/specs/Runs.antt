@@ -1,14 +1,16 @@
--- The run of the code read as the model's.
+-- The run of the code read as the definitions'.
 use mathlib.Core.Path.{_≡_}
 use mathlib.Core.Bool.{false}
 use mathlib.Core.List.{List}
 use Prim.Native.Nat.{ℕ}
 use lib.IntN.{ℤ}
 use lib.ListN.{length}
-use Rattle.model.specs.Job.{Job}
+use Rattle.model.specs.Job.{Job as Call}
 use Rattle.model.specs.Rounds as model
 use Rattle.model.specs.Rounds.{ended, settled, conflict, stopped, start}
 use Rattle.tables.specs.Board.{table-of}
+use Rattle.tables.specs.Job.{Holds}
+use Rattle.tables.specs.declared.Job.{Job}
 use Rattle.rounds.specs.State.{status-of, still, state-of, Grown}
 use Rattle.rounds.specs.declared.Progress.{Progress}
 use Rattle.rounds.specs.declared.Status.the-variants.{Running}
@@ -33,7 +35,7 @@ abbrev pub run-of : ℕ → List ℤ → List ℤ → Ended → model.Run
 run-of n b buffer q =
     record { verdict = verdict-of (q .verdict); rounds = q .rounds; state = state-of n b buffer (q .progress) }
 
--- The run from the window table of n events on a board.
-pub record Ran (n : ℕ) (j : Job) (b buffer b′ buffer′ : List ℤ) (q : Ended) : Type 0 where
-  pub is : run-of n b′ buffer′ q ≡ model.run (length buffer) j (length buffer) 0 (start (table-of n b))
-  pub grown : Grown n buffer fresh b′ buffer′ (q .progress)
+-- The run from the window table on a board, of every call that the job at hand is of.
+pub record Ran (k : Job) (ws b buffer b′ buffer′ : List ℤ) (q : Ended) : Type 0 where
+  pub is : (j : Call) → Holds k ws j → run-of (k .events) b′ buffer′ q ≡ model.run (length buffer) j (length buffer) 0 (start (table-of (k .events) b))
+  pub grown : Grown (k .events) buffer fresh b′ buffer′ (q .progress)

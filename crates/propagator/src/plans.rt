@@ -6,23 +6,21 @@ use crate::Verdict;
 use crate::runs::run;
 use questions::Check;
 use questions::asked::questions;
-use rounds::Job;
 use slips::appending::append_trailer;
-use tables::Time;
-use tables::cage;
+use tables::Job;
+use tables::job_of;
 use tables::load;
 use tables::unload;
 ghost use mathlib.Core.Path.{_≡_};
 ghost use Prim.Native.Nat.{_*_, _≤_};
 ghost use lib.ListN.{length};
-ghost use Rattle.model.specs.Job.{windows};
+ghost use Rattle.model.specs.Job.{windows, job, Job as Call};
+ghost use Rattle.model.specs.Standing.{Ranged};
 ghost use Rattle.model.specs.Rounds.{run, start};
 ghost use Rattle.model.specs.Planner.{done, planned, plan};
-ghost use Rattle.model.proofs.Standing.{Sane};
-ghost use Rattle.levels.specs.Values.{Ranged};
-ghost use Rattle.rounds.specs.State.{job-at};
+ghost use Rattle.tables.specs.Job.{Holds, Fit};
 ghost use Rattle.propagator.specs.Runs.{verdict-of};
-ghost use Rattle.propagator.specs.Plans.{reply-of, task-of, Outcomes};
+ghost use Rattle.propagator.specs.Plans.{reply-of, Outcomes};
 
 // The answer of a run that has ended, with the list's length.
 pub fn answer(e: Ended, length: usize) -> Answer
@@ -42,29 +40,23 @@ pub fn answer(e: Ended, length: usize) -> Answer
     }
 }
 
-// The job of a call.
-pub fn task(h: i32, low: i32, high: i32, q: i32, n: usize) -> Job
-    ensures { λ k. ⌜ k ≡ task-of h low high q n ⌝ }
-{
-    Job {
-        horizon: Time(h),
-        reservoir: cage(low, high, q),
-        events: n,
-    }
-}
-
 // The run of a job that passed its questions, with both lent tables written.
 pub fn planned(k: Job, table: &mut [i32], lags: &[i32], buffer: &mut [i32]) -> Answer
     requires { ⌜
-        Sane (job-at k (now lags))
+        Fit k (now lags)
         × (length (now table) ≡ 4 * k .events)
         × Ranged (k .events) (windows (now table))
         × (3 ≤ length (now buffer))
         × (length (now buffer) ≤ 1000000)
         ⌝ }
     ensures { λ r. ⌜
-        Outcomes (planned (run (length (now (buffer .entry))) (job-at k (now (lags .entry))) (length (now (buffer .entry))) 0 (start (now (table .entry)))) (now (buffer .entry)))
+        (
+        (j : Call) →
+        Holds k (now (lags .entry)) j →
+        Outcomes
+        (planned (run (length (now (buffer .entry))) j (length (now (buffer .entry))) 0 (start (now (table .entry)))) (now (buffer .entry)))
         (now (table .exit)) (now (buffer .exit)) r
+        )
         ⌝ }
 {
     let n = k.events;
@@ -89,13 +81,14 @@ pub fn plan(
     lags: &[i32],
     buffer: &mut [i32],
 ) -> Answer
-    ensures answer { λ r. ⌜ reply-of r ≡ plan h low high q (now (table .entry)) (now (lags .entry)) (now (buffer .entry)) .reply ⌝ }
-    ensures windows { λ r. ⌜ now (table .exit) ≡ plan h low high q (now (table .entry)) (now (lags .entry)) (now (buffer .entry)) .table ⌝ }
-    ensures slips { λ r. ⌜ now (buffer .exit) ≡ plan h low high q (now (table .entry)) (now (lags .entry)) (now (buffer .entry)) .buffer ⌝ }
+    ensures answer { λ r. ⌜ reply-of r ≡ plan (job h low high q (now (table .entry)) (now (lags .entry))) (now (buffer .entry)) .reply ⌝ }
+    ensures windows { λ r. ⌜ now (table .exit) ≡ plan (job h low high q (now (table .entry)) (now (lags .entry))) (now (buffer .entry)) .table ⌝ }
+    ensures slips { λ r. ⌜ now (buffer .exit) ≡ plan (job h low high q (now (table .entry)) (now (lags .entry))) (now (buffer .entry)) .buffer ⌝ }
 {
-    let check = questions(h, low, high, q, table, lags, buffer.len());
+    let k = job_of(h, low, high, q, table.len() / 4);
+    let check = questions(k, table, lags, buffer.len());
     match check {
         Check::Refuse(r) => Answer::Refused(r),
-        Check::Pass => planned(task(h, low, high, q, table.len() / 4), table, lags, buffer),
+        Check::Pass => planned(k, table, lags, buffer),
     }
 }

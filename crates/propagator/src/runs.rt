@@ -1,14 +1,14 @@
 // Rounds until settled, conflict or stopped.
 use crate::Ended;
 use crate::Verdict;
-use rounds::Job;
 use rounds::Progress;
 use rounds::Status;
 use rounds::attempts::is_running;
 use rounds::sweeps::round;
+use tables::Job;
 ghost use mathlib.Core.Path.{_≡_};
-ghost use Rattle.model.proofs.Standing.{Sane};
-ghost use Rattle.rounds.specs.State.{job-at, Held};
+ghost use Rattle.tables.specs.Job.{Fit};
+ghost use Rattle.rounds.specs.State.{Held};
 ghost use Rattle.propagator.specs.Runs.{fresh, Tested, Ran};
 
 // No slip yet.
@@ -37,8 +37,8 @@ fn verdict(p: Progress) -> Verdict
 
 // Rounds from the start until one writes no slip, or a conflict or the room ends the call.
 pub fn run(b: &mut [i32; 256], lags: &[i32], k: Job, buffer: &mut [i32]) -> Ended
-    requires { ⌜ Sane (job-at k (now lags)) × Held (k .events) (now b) (now buffer) fresh ⌝ }
-    ensures { λ q. ⌜ Ran (k .events) (job-at k (now (lags .entry))) (now (b .entry)) (now (buffer .entry)) (now (b .exit)) (now (buffer .exit)) q ⌝ }
+    requires { ⌜ Fit k (now lags) × Held (k .events) (now b) (now buffer) fresh ⌝ }
+    ensures { λ q. ⌜ Ran k (now (lags .entry)) (now (b .entry)) (now (buffer .entry)) (now (b .exit)) (now (buffer .exit)) q ⌝ }
 {
     let mut p = start();
     let mut rounds: usize = 0;

@@ -1,3 +1,3 @@
 pub mod Moves
 pub mod Trying
-pub mod Sparing
+pub mod Passing

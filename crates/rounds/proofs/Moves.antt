@@ -1,131 +1,144 @@
--- Attempts one after the other: what was done to the state, and that the list only grows.
+-- Attempts one after the other: what was made of the state, and that the list only grows.
 -- Assumes nothing.
 use mathlib.Core.Path.{_≡_, refl, sym, ap, _∙_}
-use mathlib.Core.List.{List}
-use Prim.Native.Nat.{ℕ, zero, suc, _+_, _-_, _≤_, _<_}
+use mathlib.Core.Bool.{Bool}
+use mathlib.Core.List.{List, [], _∷_, _++_}
+use Prim.Native.Nat.{ℕ, _+_, _≤_, _<_}
 use native.Mathlib.Omega.{arith}
-use lib.IntN.{ℤ}
-use lib.ListN.{length, drop}
-use Rattle.model.specs.Job.{Job, lags, lag-a, lag-b}
-use Rattle.model.specs.Rounds.{State, attempt, lags-from, targets-from, three-rules, event-rules, events-from, round}
-use Rattle.model.specs.Rules.{rule}
-use Rattle.model.specs.Reader.{subjects}
-use Rattle.rules.proofs.Giving.{variant-is}
+use lib.IntN.{ℤ, natAbs}
+use lib.ListN.{length}
+use Rattle.model.specs.Job.{windows, lag-word, Reservoir, Job as Call}
+use Rattle.model.specs.View.{View}
+use Rattle.model.proofs.Agree.{Agree}
+use Rattle.model.specs.Rules.{Family, level, time, height, reservoir, rule}
+use Rattle.model.specs.Agenda.{Attempt, try, each-of, lag-attempts, target-attempts, three-attempts, event-attempts, agenda}
+use Rattle.model.specs.Rounds.{made}
+use Rattle.model.proofs.Sweeps.{made-append, made-more}
+use Rattle.tables.specs.Board.{board, table-of}
+use Rattle.tables.proofs.Board.{windows-board}
+use Rattle.tables.specs.Job.{reservoir-of, Holds, Fit}
+use Rattle.tables.specs.declared.Job.{Job}
+use Rattle.tables.specs.declared.Height.{Height}
+use Rattle.levels.specs.Values.{Views}
+use Rattle.levels.specs.declared.View.{View as Sight}
+use Rattle.rules.specs.Values.{subjects-of, Tries}
 use Rattle.slips.proofs.Wording.{drop-later}
-use Rattle.rounds.specs.State.{state-of, Held, Grown, Made, lag-rules}
-use Rattle.rounds.specs.Sweeps.{two-rules}
+use Rattle.rounds.specs.State.{state-of, Held, Grown, Made}
+use Rattle.rounds.specs.Sweeps.{Sees, Three, two-attempts, lags-attempts, events-attempts}
 use Rattle.rounds.specs.declared.Progress.{Progress}
+
+-- The board and its window table hold the same windows.
+pub agree : (n : ℕ) (b : List ℤ) → Agree n (windows (table-of n b)) (board b)
+agree n b y l k = windows-board n b y k l
+
+-- ---- the list grows
 
 pub grown-none : {n : ℕ} {b buffer : List ℤ} {p : Progress} → Held n b buffer p → Grown n buffer p b buffer p
 grown-none h = record { held = h; same = refl; after = refl; longer = omega arith; more = omega arith }
 
-module _ {n : ℕ} {buffer : List ℤ} {p : Progress} {b′ buffer′ : List ℤ} {p′ : Progress} {b″ buffer″ : List ℤ} {p″ : Progress} where
-  pub grown-more : Grown n buffer p b′ buffer′ p′ → Grown n buffer′ p′ b″ buffer″ p″ → Grown n buffer p b″ buffer″ p″
-  grown-more g h =
-      record {
-        held = h .held;
-        same = h .same ∙ g .same;
-        after = h .after ∙ drop-later buffer′ buffer (p′ .used) (p″ .used) (h .longer) (g .after);
-        longer = omega arith;
-        more = omega arith;
-      }
-
--- One thing, then another; each is said of the room, which is the buffer's length and stays.
-pub made-then : (f g : ℕ → State → State) {n : ℕ} {b buffer : List ℤ} {p : Progress} {b′ buffer′ : List ℤ} {p′ : Progress} {b″ buffer″ : List ℤ} {p″ : Progress}
-    → Made n (f (length buffer)) b buffer p b′ buffer′ p′ → Made n (g (length buffer′)) b′ buffer′ p′ b″ buffer″ p″
-    → Made n (λ s. g (length buffer) (f (length buffer) s)) b buffer p b″ buffer″ p″
-made-then f g {buffer = buffer} m o =
+pub grown-more : {n : ℕ} {buffer : List ℤ} {p : Progress} {b′ buffer′ : List ℤ} {p′ : Progress} {b″ buffer″ : List ℤ} {p″ : Progress}
+    → Grown n buffer p b′ buffer′ p′ → Grown n buffer′ p′ b″ buffer″ p″ → Grown n buffer p b″ buffer″ p″
+grown-more {buffer = buffer} {buffer′ = buffer′} {p′ = p′} {p″ = p″} g h =
     record {
-      is = o .is ∙ rw (m .grown .same) (ap (g (length buffer)) (m .is));
-      grown = grown-more (m .grown) (o .grown);
+      held = h .held;
+      same = h .same ∙ g .same;
+      after = h .after ∙ drop-later buffer′ buffer (p′ .used) (p″ .used) (h .longer) (g .after);
+      longer = omega arith;
+      more = omega arith;
     }
 
--- On the way: what is left to do from here is, from the start, the whole.
-pub record Going (n : ℕ) (rest whole : State → State) (b buffer : List ℤ) (p : Progress) (b′ buffer′ : List ℤ) (p′ : Progress) : Type 0 where
-  pub is : rest (state-of n b′ buffer′ p′) ≡ whole (state-of n b buffer p)
-  pub grown : Grown n buffer p b′ buffer′ p′
+-- ---- attempts in turn
 
-pub going-start : {n : ℕ} {rest whole : State → State} {b buffer : List ℤ} {p : Progress} → rest ≡ whole → Held n b buffer p → Going n rest whole b buffer p b buffer p
-going-start {n} {b = b} {buffer = buffer} {p = p} e h = record { is = ap (λ f. f (state-of n b buffer p)) e; grown = grown-none h }
+module _ {k : Job} {ws : List ℤ} where
+  -- None.
+  pub made-none : (f : ℕ → Call → List Attempt) {b buffer : List ℤ} {p : Progress} → Held (k .events) b buffer p → Made k ws (λ j. each-of (λ i. f i j) 0 0) b buffer p b buffer p
+  unfolding each-of made
+  made-none f h = record { is = λ j q. refl; grown = grown-none h }
 
-pub going-on : (f : ℕ → State → State) {n : ℕ} {rest next whole : State → State} {b buffer : List ℤ} {p : Progress} {b′ buffer′ : List ℤ} {p′ : Progress} {b″ buffer″ : List ℤ} {p″ : Progress}
-    → ((s : State) → rest s ≡ next (f (length buffer) s)) → Going n rest whole b buffer p b′ buffer′ p′ → Made n (f (length buffer′)) b′ buffer′ p′ b″ buffer″ p″
-    → Going n next whole b buffer p b″ buffer″ p″
-going-on f {n} {rest} {next} {b′ = b′} {buffer′ = buffer′} {p′ = p′} e g m =
-    record {
-      is = ap next (m .is ∙ rw (g .grown .same)) ∙ sym (e (state-of n b′ buffer′ p′)) ∙ g .is;
-      grown = grown-more (g .grown) (m .grown);
-    }
+  module _ {b buffer : List ℤ} {p : Progress} {b′ buffer′ : List ℤ} {p′ : Progress} {b″ buffer″ : List ℤ} {p″ : Progress} where
+    -- These, then those: the room is the buffer's length and stays.
+    pub made-both : (f g : Call → List Attempt) → Made k ws f b buffer p b′ buffer′ p′ → Made k ws g b′ buffer′ p′ b″ buffer″ p″ → Made k ws (λ j. f j ++ g j) b buffer p b″ buffer″ p″
+    made-both f g m o =
+        record {
+          is = λ j q. o .is j q ∙ rw (m .grown .same, m .is j q) (sym (made-append (length buffer) j (f j) (g j) (state-of (k .events) b buffer p)));
+          grown = grown-more (m .grown) (o .grown);
+        }
 
-pub going-end : {n : ℕ} {rest whole : State → State} {b buffer : List ℤ} {p : Progress} {b′ buffer′ : List ℤ} {p′ : Progress}
-    → ((s : State) → rest s ≡ s) → Going n rest whole b buffer p b′ buffer′ p′ → Made n whole b buffer p b′ buffer′ p′
-going-end {n} {b′ = b′} {buffer′ = buffer′} {p′ = p′} e g = record { is = sym (e (state-of n b′ buffer′ p′)) ∙ g .is; grown = g .grown }
+    -- In a loop: those so far, then those of i.
+    pub made-on : (f : ℕ → Call → List Attempt) (i : ℕ) → Made k ws (λ j. each-of (λ i. f i j) 0 i) b buffer p b′ buffer′ p′ → Made k ws (f i) b′ buffer′ p′ b″ buffer″ p″ → Made k ws (λ j. each-of (λ i. f i j) 0 (i + 1)) b buffer p b″ buffer″ p″
+    made-on f i m o =
+        record {
+          is = λ j q. o .is j q ∙ rw (m .grown .same, m .is j q) (sym (made-more (length buffer) j (λ i. f i j) i (state-of (k .events) b buffer p)));
+          grown = grown-more (m .grown) (o .grown);
+        }
 
--- ---- the sweeps, item by item
+  -- The same list in other words.
+  pub made-as : {f g : Call → List Attempt} {b buffer : List ℤ} {p : Progress} {b′ buffer′ : List ℤ} {p′ : Progress} → ((j : Call) → Holds k ws j → f j ≡ g j) → Made k ws f b buffer p b′ buffer′ p′ → Made k ws g b buffer p b′ buffer′ p′
+  made-as e m = record { is = λ j q. rw (← e j q) (m .is j q); grown = m .grown }
 
-left : (i n : ℕ) → i < n → n - i ≡ suc (n - (i + 1))
-left i n h = omega arith
+-- Rules 1 and 2 of a lag, at its events.
+pub lag-made : {k : Job} {ws : List ℤ} (g : ℕ) {a z : ℕ} {b buffer : List ℤ} {p : Progress} {b′ buffer′ : List ℤ} {p′ : Progress} {b″ buffer″ : List ℤ} {p″ : Progress} → a ≡ natAbs (lag-word ws g 0) → z ≡ natAbs (lag-word ws g 1)
+    → Made k ws (λ j. try 1 g a ∷ []) b buffer p b′ buffer′ p′ → Made k ws (λ j. try 2 g z ∷ []) b′ buffer′ p′ b″ buffer″ p″ → Made k ws (λ j. lag-attempts j g) b buffer p b″ buffer″ p″
+lag-made {k} {ws} g {a} {z} i l first second =
+    made-as {f = λ j. try 1 g a ∷ try 2 g z ∷ []} {g = λ j. lag-attempts j g} (λ j h. rw (h .lags-are, i, l)) (made-both (λ j. try 1 g a ∷ []) (λ j. try 2 g z ∷ []) first second)
 
-module _ (room : ℕ) (j : Job) where
-  pub targets-more : (r e y n : ℕ) → y < n → (s : State) → targets-from room j r e y (n - y) s ≡ targets-from room j r e (y + 1) (n - (y + 1)) (attempt room r j e y s)
-  unfolding targets-from
-  targets-more r e y n h s = rw (left y n h)
+-- ---- the rules tried
 
-  pub targets-done : (r e y n : ℕ) → n ≤ y → (s : State) → targets-from room j r e y (n - y) s ≡ s
-  unfolding targets-from
-  targets-done r e y n h s = let k : n - y ≡ zero = omega arith in rw k
+module _ {k : Job} {ws b buffer : List ℤ} {p : Progress} (fit : Fit k ws) (held : Held (k .events) b buffer p) where
+  pub tries : (r : ℕ) {g y : ℕ} → 1 ≤ r → r ≤ 14 → g < subjects-of (rule r) k ws → y < k .events → Tries k ws (board b) r g y
+  tries r a z l m = record { fit = fit; windows = held .ranged; first = a; last = z; subject = l; target = m }
 
-  pub lags-more : (g m : ℕ) → g < m → (s : State) → lags-from room j g (m - g) s ≡ lags-from room j (g + 1) (m - (g + 1)) (attempt room 2 j g (lag-b j g) (attempt room 1 j g (lag-a j g) s))
-  unfolding lags-from
-  lags-more g m h s = rw (left g m h)
+  pub tries-seen : {r y : ℕ} {f : Family} {v : Sight} → Sees k r f v → y < k .events → Tries k ws (board b) r (v .subject) y
+  tries-seen {v = v} s m =
+      record { fit = fit; windows = held .ranged; first = omega (arith, s .first); last = s .last; subject = rw (s .rule-is) (s .subject); target = m }
 
-  pub lags-done : (g m : ℕ) → m ≤ g → (s : State) → lags-from room j g (m - g) s ≡ s
-  unfolding lags-from
-  lags-done g m h s = let k : m - g ≡ zero = omega arith in rw k
+-- ---- three rules in a row
 
-  pub events-more : (e n : ℕ) → e < n → (s : State) → events-from room j e (n - e) s ≡ events-from room j (e + 1) (n - (e + 1)) (event-rules room j e s)
-  unfolding events-from
-  events-more e n h s = rw (left e n h)
+-- A view says itself what it is of.
+module _ {n : ℕ} {c : Reservoir} {m b : Bool} {e : ℕ} {v : Sight} (s : Views n c m b e v) where
+  pub subject-is : v .subject ≡ e
+  subject-is = ap (λ (E : View). E .subject) (s .is)
 
-  pub events-done : (e n : ℕ) → n ≤ e → (s : State) → events-from room j e (n - e) s ≡ s
-  unfolding events-from
-  events-done e n h s = let k : n - e ≡ zero = omega arith in rw k
+  strict-is : v .strict ≡ b
+  strict-is = ap (λ (E : View). E .before 0) (s .is)
 
--- Rules 3 to 14 have events for subjects.
-pub subject-event : (j : Job) (r e : ℕ) → 3 ≤ r → r ≤ 14 → e < j .events → e < subjects (rule r) j
-subject-event j r e low high h = rw (← variant-is r low high) h
+  own-view : Views n c (v .mirror) (v .strict) (v .subject) v
+  own-view = record { is = s .is ∙ rw (s .side-is, strict-is, subject-is); side-is = refl }
 
--- ---- the parts of a round joined
+-- They are the families' of the view at e of a side, before or by.
+module _ (k : Job) {m b : Bool} {e : ℕ} {v : Sight} (s : Views (k .events) (reservoir-of (k .reservoir)) m b e v) (l : e < k .events) where
+  sees : (r : ℕ) {f : Family} → 3 ≤ r → r ≤ 14 → rule r ≡ reservoir m b f → Sees k r f v
+  sees r low high i = record { first = low; last = high; rule-is = i ∙ rw (s .side-is, strict-is s); views = own-view s; subject = rw (subject-is s) l }
 
-pub lag-made : (j : Job) (g : ℕ) {n : ℕ} {b₀ buffer₀ : List ℤ} {p₀ : Progress} {b₁ buffer₁ : List ℤ} {p₁ : Progress} {b₂ buffer₂ : List ℤ} {p₂ : Progress}
-    → Made n (attempt (length buffer₀) 1 j g (lag-a j g)) b₀ buffer₀ p₀ b₁ buffer₁ p₁ → Made n (attempt (length buffer₁) 2 j g (lag-b j g)) b₁ buffer₁ p₁ b₂ buffer₂ p₂
-    → Made n (lag-rules (length buffer₀) j g) b₀ buffer₀ p₀ b₂ buffer₂ p₂
-lag-made j g first second = made-then (λ room. attempt room 1 j g (lag-a j g)) (λ room. attempt room 2 j g (lag-b j g)) first second
+  module _ {r : ℕ} (t : Three r m b) where
+    pub sees-level : Sees k r level v
+    sees-level = sees r (t .first) (omega (arith, t .last)) (t .level-is)
 
-pub two-made : (j : Job) (r e : ℕ) {n : ℕ} {b₀ buffer₀ : List ℤ} {p₀ : Progress} {b₁ buffer₁ : List ℤ} {p₁ : Progress} {b₂ buffer₂ : List ℤ} {p₂ : Progress}
-    → Made n (attempt (length buffer₀) r j e e) b₀ buffer₀ p₀ b₁ buffer₁ p₁ → Made n (attempt (length buffer₁) (r + 1) j e e) b₁ buffer₁ p₁ b₂ buffer₂ p₂
-    → Made n (two-rules (length buffer₀) j r e) b₀ buffer₀ p₀ b₂ buffer₂ p₂
-two-made j r e level time = made-then (λ room. attempt room r j e e) (λ room. attempt room (r + 1) j e e) level time
+    pub sees-time : Sees k (r + 1) time v
+    sees-time = sees (r + 1) (omega (arith, t .first)) (omega (arith, t .last)) (t .time-is)
 
-pub three-made : (j : Job) (r e : ℕ) {n : ℕ} {b₀ buffer₀ : List ℤ} {p₀ : Progress} {b₂ buffer₂ : List ℤ} {p₂ : Progress} {b₃ buffer₃ : List ℤ} {p₃ : Progress}
-    → Made n (two-rules (length buffer₀) j r e) b₀ buffer₀ p₀ b₂ buffer₂ p₂
-    → Made n (targets-from (length buffer₂) j (r + 2) e 0 (j .events)) b₂ buffer₂ p₂ b₃ buffer₃ p₃ → Made n (three-rules (length buffer₀) j r e) b₀ buffer₀ p₀ b₃ buffer₃ p₃
-unfolding three-rules
-three-made j r e two height = made-then (λ room. two-rules room j r e) (λ room. targets-from room j (r + 2) e 0 (j .events)) two height
+    pub sees-height : Sees k (r + 2) height v
+    sees-height = sees (r + 2) (omega (arith, t .first)) (omega (arith, t .last)) (t .height-is)
 
-pub event-made : (j : Job) (e : ℕ) {n : ℕ} {b₀ buffer₀ : List ℤ} {p₀ : Progress} {b₁ buffer₁ : List ℤ} {p₁ : Progress} {b₂ buffer₂ : List ℤ} {p₂ : Progress} {b₃ buffer₃ : List ℤ} {p₃ : Progress} {b₄ buffer₄ : List ℤ} {p₄ : Progress}
-    → Made n (three-rules (length buffer₀) j 3 e) b₀ buffer₀ p₀ b₁ buffer₁ p₁ → Made n (three-rules (length buffer₁) j 6 e) b₁ buffer₁ p₁ b₂ buffer₂ p₂
-    → Made n (three-rules (length buffer₂) j 9 e) b₂ buffer₂ p₂ b₃ buffer₃ p₃ → Made n (three-rules (length buffer₃) j 12 e) b₃ buffer₃ p₃ b₄ buffer₄ p₄
-    → Made n (event-rules (length buffer₀) j e) b₀ buffer₀ p₀ b₄ buffer₄ p₄
-unfolding event-rules
-event-made j e before mirrored by mirrored-by =
-    let three : ℕ → ℕ → State → State = λ r room. three-rules room j r e in
-    made-then (λ room s. three 9 room (three 6 room (three 3 room s))) (three 12)
-    (made-then (λ room s. three 6 room (three 3 room s)) (three 9) (made-then (three 3) (three 6) before mirrored) by)
-    mirrored-by
+-- In turn; all of them at e.
+module _ {k : Job} {ws : List ℤ} {b₀ buffer₀ : List ℤ} {p₀ : Progress} {b₁ buffer₁ : List ℤ} {p₁ : Progress} {b₂ buffer₂ : List ℤ} {p₂ : Progress} where
+  pub three-made : (r e : ℕ) {d : ℕ} → d ≡ e → Made k ws (λ j. two-attempts r d) b₀ buffer₀ p₀ b₁ buffer₁ p₁ → Made k ws (λ j. target-attempts j (r + 2) d) b₁ buffer₁ p₁ b₂ buffer₂ p₂
+      → Made k ws (λ j. three-attempts j r e) b₀ buffer₀ p₀ b₂ buffer₂ p₂
+  three-made r e i two targets = made-both (λ j. two-attempts r e) (λ j. target-attempts j (r + 2) e) (rw i at two) (rw i at targets)
 
-pub round-made : (j : Job) {n : ℕ} {b₀ buffer₀ : List ℤ} {p₀ : Progress} {b₁ buffer₁ : List ℤ} {p₁ : Progress} {b₂ buffer₂ : List ℤ} {p₂ : Progress}
-    → Made n (lags-from (length buffer₀) j 0 (lags j)) b₀ buffer₀ p₀ b₁ buffer₁ p₁ → Made n (events-from (length buffer₁) j 0 (j .events)) b₁ buffer₁ p₁ b₂ buffer₂ p₂
-    → Made n (round (length buffer₀) j) b₀ buffer₀ p₀ b₂ buffer₂ p₂
-unfolding round
-round-made j first second = made-then (λ room. lags-from room j 0 (lags j)) (λ room. events-from room j 0 (j .events)) first second
+  pub event-made : (e : ℕ) {b₃ buffer₃ : List ℤ} {p₃ : Progress} {b₄ buffer₄ : List ℤ} {p₄ : Progress}
+      → Made k ws (λ j. three-attempts j 3 e) b₀ buffer₀ p₀ b₁ buffer₁ p₁ → Made k ws (λ j. three-attempts j 6 e) b₁ buffer₁ p₁ b₂ buffer₂ p₂
+      → Made k ws (λ j. three-attempts j 9 e) b₂ buffer₂ p₂ b₃ buffer₃ p₃ → Made k ws (λ j. three-attempts j 12 e) b₃ buffer₃ p₃ b₄ buffer₄ p₄
+      → Made k ws (λ j. event-attempts j e) b₀ buffer₀ p₀ b₄ buffer₄ p₄
+  event-made e before mirrored by mirrored-by =
+      let three : ℕ → Call → List Attempt = λ r j. three-attempts j r e in
+      made-both (three 3) (λ j. three 6 j ++ (three 9 j ++ three 12 j)) before
+      (made-both (three 6) (λ j. three 9 j ++ three 12 j) mirrored (made-both (three 9) (three 12) by mirrored-by))
+
+  pub round-made : Made k ws lags-attempts b₀ buffer₀ p₀ b₁ buffer₁ p₁ → Made k ws events-attempts b₁ buffer₁ p₁ b₂ buffer₂ p₂ → Made k ws agenda b₀ buffer₀ p₀ b₂ buffer₂ p₂
+  unfolding agenda
+  round-made first second = made-both lags-attempts events-attempts first second
+
+-- What holds after either arm of a branch holds after the branch.
+pub joined : (P : List ℤ → List ℤ → Progress → Height → Type 0) {b b′ buffer buffer′ : List ℤ} {q q′ : Progress} {d d′ : Height} → b ≡ b′ → buffer ≡ buffer′ → q ≡ q′ → d ≡ d′ → P b′ buffer′ q′ d′ → P b buffer q d
+joined P i j k l x = rw (i, j, k, l) x

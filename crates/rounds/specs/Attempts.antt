@@ -1,5 +1,4 @@
 -- What an effect does to the board, the window table and the call.
-use mathlib.Core.Bool.{Bool, true, false}
 use mathlib.Core.List.{List}
 use Prim.Native.Nat.{ℕ, _+_, _*_}
 use lib.IntN.{ℤ}
@@ -9,11 +8,6 @@ use Rattle.model.specs.Rules.{Effect, idle, narrows, fails}
 use Rattle.model.specs.Rounds.{Status, running, ended, conflict}
 use Rattle.rounds.specs.declared.Progress.{Progress}
 use Rattle.rounds.specs.declared.Status.the-variants.{Stopped}
-
-abbrev pub is-idle : Effect → Bool
-is-idle idle = true
-is-idle (narrows v) = false
-is-idle fails = false
 
 -- The board, and the window table, with a new end k of event y.
 abbrev pub stored : End → ℕ → Effect → List ℤ → List ℤ

@@ -1,34 +1,28 @@
 // One attempt of a rule at a subject with a target, on the windows as they then stand.
-use crate::Job;
 use crate::Progress;
 use crate::Status;
 use facts::premises::citing;
 use rules::Effect;
 use rules::effects::effect;
+use rules::effects::is_idle;
+use rules::numbers::own_kind;
 use slips::appending::append_slip;
-use slips::appending::own_kind;
 use slips::appending::put_slip;
 use slips::writing::count_premises;
-use tables::Height;
-use tables::Time;
-use tables::set_h_max;
-use tables::set_h_min;
-use tables::set_t_max;
-use tables::set_t_min;
+use tables::Job;
+use tables::ends::set_end;
 ghost use mathlib.Core.Path.{_≡_};
-ghost use mathlib.Core.Bool.{false, not};
-ghost use Prim.Native.Nat.{_+_, _*_, _<_, _≤_};
-ghost use lib.Dec.{T};
-ghost use lib.ListN.{length, set};
-ghost use Rattle.model.specs.Job.{word};
+ghost use mathlib.Core.Bool.{false};
+ghost use mathlib.Core.List.{[], _∷_};
+ghost use Prim.Native.Nat.{_<_, _≤_};
+ghost use lib.ListN.{length};
 ghost use Rattle.model.specs.Rules.{rule, own-end};
-ghost use Rattle.model.specs.Rounds.{acted, attempt};
+ghost use Rattle.model.specs.Agenda.{try};
+ghost use Rattle.model.specs.Rounds.{acted};
 ghost use Rattle.tables.specs.Board.{board};
-ghost use Rattle.model.proofs.Standing.{Sane};
-ghost use Rattle.levels.specs.Values.{reservoir-of};
-ghost use Rattle.rules.specs.Values.{effect-of, suits, is-time, Does};
-ghost use Rattle.rounds.specs.State.{status-of, still, job-at, Held, Aimed, Made};
-ghost use Rattle.rounds.specs.Attempts.{is-idle, stored, status-after, stopped-at};
+ghost use Rattle.rules.specs.Values.{effect-of, is-idle, Tries, Does};
+ghost use Rattle.rounds.specs.State.{status-of, still, Held, Leads, Made};
+ghost use Rattle.rounds.specs.Attempts.{stored, status-after, stopped-at};
 
 // ---- what is asked of a state and an effect
 
@@ -44,63 +38,25 @@ pub fn is_running(p: Progress) -> bool
     }
 }
 
-// Does it change nothing?
-pub fn is_idle(x: Effect) -> bool
-    ensures { λ r. ⌜ r ≡ is-idle (effect-of x) ⌝ }
-{
-    match x {
-        Effect::Idle => true,
-        Effect::NarrowsTime(_) => false,
-        Effect::NarrowsHeight(_) => false,
-        Effect::Fails => false,
-    }
-}
-
 // How the call stands after an effect.
 fn status_after(x: Effect) -> Status
     ensures { λ s. ⌜ status-of s ≡ status-after (effect-of x) ⌝ }
 {
     match x {
         Effect::Idle => Status::Running,
-        Effect::NarrowsTime(_) => Status::Running,
-        Effect::NarrowsHeight(_) => Status::Running,
+        Effect::Narrows(_) => Status::Running,
         Effect::Fails => Status::Conflict,
     }
 }
 
-// ---- a new end stored
-
-fn store_time(b: &mut [i32; 256], r: usize, y: usize, t: Time)
-    requires { ⌜ (1 ≤ r) × (r ≤ 14) × (y < 64) × T (is-time (own-end (rule r))) ⌝ }
-    ensures { λ u. ⌜ now (b .exit) ≡ set (now (b .entry)) (64 * word (own-end (rule r)) + y) (t .0) ⌝ }
-{
-    if own_kind(r) == 1 {
-        set_t_min(b, y, t);
-    } else {
-        set_t_max(b, y, t);
-    }
-}
-
-fn store_height(b: &mut [i32; 256], r: usize, y: usize, h: Height)
-    requires { ⌜ (1 ≤ r) × (r ≤ 14) × (y < 64) × T (not (is-time (own-end (rule r)))) ⌝ }
-    ensures { λ u. ⌜ now (b .exit) ≡ set (now (b .entry)) (64 * word (own-end (rule r)) + y) (h .0) ⌝ }
-{
-    if own_kind(r) == 3 {
-        set_h_min(b, y, h);
-    } else {
-        set_h_max(b, y, h);
-    }
-}
-
-// The new end of y's window, if there is one.
-pub fn store(b: &mut [i32; 256], r: usize, y: usize, x: Effect)
-    requires { ⌜ (1 ≤ r) × (r ≤ 14) × (y < 64) × T (suits (is-time (own-end (rule r))) x) ⌝ }
+// The new end of y's window, if there is one, stored.
+fn store(b: &mut [i32; 256], r: usize, y: usize, x: Effect)
+    requires { ⌜ (1 ≤ r) × (r ≤ 14) × (y < 64) ⌝ }
     ensures { λ u. ⌜ now (b .exit) ≡ stored (own-end (rule r)) y (effect-of x) (now (b .entry)) ⌝ }
 {
     match x {
         Effect::Idle => {}
-        Effect::NarrowsTime(t) => store_time(b, r, y, t),
-        Effect::NarrowsHeight(h) => store_height(b, r, y, h),
+        Effect::Narrows(v) => set_end(b, own_kind(r), y, v),
         Effect::Fails => {}
     }
 }
@@ -132,22 +88,21 @@ fn act(
     p: Progress,
 ) -> Progress
     requires { ⌜
-        Sane (job-at k (now lags))
-        × Held (k .events) (now b) (now buffer) p
-        × Aimed (job-at k (now lags)) r e y
-        × Does (now lags) (k .events) (reservoir-of (k .reservoir)) (board (now b)) r e y x
+        Held (k .events) (now b) (now buffer) p
+        × Tries k (now lags) (board (now b)) r e y
+        × Does k (now lags) (board (now b)) r e y x
         × (is-idle (effect-of x) ≡ false)
         ⌝ }
     ensures { λ q. ⌜
-        Made (k .events) (acted (length (now (buffer .entry))) r (job-at k (now (lags .entry))) e y (effect-of x))
+        Leads k (now (lags .entry)) (λ j. acted (length (now (buffer .entry))) r j e y (effect-of x))
         (now (b .entry)) (now (buffer .entry)) p (now (b .exit)) (now (buffer .exit)) q
         ⌝ }
 {
     let n = k.events;
-    let facts = citing(b, lags, n, k.reservoir, r, e, y, x);
+    let cited = citing(b, lags, k, r, e, y, x);
     let used = p.used;
     if used + 778 <= buffer.len() {
-        let next = put_slip(buffer, used, b, n, facts, r, e, y, x);
+        let next = put_slip(buffer, used, b, n, cited, r, e, y, x);
         store(b, r, y, x);
         let count = p.slips + 1;
         return Progress {
@@ -157,11 +112,11 @@ fn act(
             status: status_after(x),
         };
     }
-    let m = count_premises(b, n, facts);
-    if used + (10 + 3 * m) > buffer.len() {
+    let count = count_premises(b, n, cited);
+    if used + (10 + 3 * count) > buffer.len() {
         return stop(p);
     }
-    let end = append_slip(buffer, used, b, n, facts, r, e, y, x, m);
+    let end = append_slip(buffer, used, b, n, cited, r, e, y, x, count);
     store(b, r, y, x);
     Progress {
         used: end,
@@ -182,16 +137,16 @@ pub fn attempt(
     buffer: &mut [i32],
     p: Progress,
 ) -> Progress
-    requires { ⌜ Sane (job-at k (now lags)) × Held (k .events) (now b) (now buffer) p × Aimed (job-at k (now lags)) r e y ⌝ }
+    requires { ⌜ Held (k .events) (now b) (now buffer) p × Tries k (now lags) (board (now b)) r e y ⌝ }
     ensures { λ q. ⌜
-        Made (k .events) (attempt (length (now (buffer .entry))) r (job-at k (now (lags .entry))) e y)
+        Made k (now (lags .entry)) (λ j. try r e y ∷ [])
         (now (b .entry)) (now (buffer .entry)) p (now (b .exit)) (now (buffer .exit)) q
         ⌝ }
 {
     if !is_running(p) {
         return p;
     }
-    let x = effect(b, lags, k.events, k.reservoir, r, e, y);
+    let x = effect(b, lags, k, r, e, y);
     if is_idle(x) {
         return p;
     }

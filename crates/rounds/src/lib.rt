@@ -2,16 +2,6 @@
 pub mod attempts; // attempts.rt: one attempt
 pub mod sweeps; // sweeps.rt: the attempts of a round in order
 
-use tables::Reservoir;
-use tables::Time;
-
-// The job: horizon, reservoir, number of events. The lag table is lent beside it.
-pub struct Job {
-    pub horizon: Time,
-    pub reservoir: Reservoir,
-    pub events: usize,
-}
-
 // How a call stands: it goes on, or has ended.
 pub enum Status {
     Running,

@@ -1,9 +1,8 @@
 // The attempts of a round in order: lags, then events with rules 3 to 14, targets in event order.
-use crate::Job;
 use crate::Progress;
 use crate::attempts::attempt;
-use rules::Variant;
-use rules::findings::variant;
+use levels::View;
+use levels::views::view;
 use rules::lags::lag_event;
 use silence::calm::are_calm;
 use silence::calm::is_calm;
@@ -14,81 +13,18 @@ use silence::slack::is_any_moved;
 use silence::slack::is_moved;
 use silence::slack::slack;
 use tables::Height;
+use tables::Job;
 ghost use mathlib.Core.Path.{_≡_};
-ghost use Prim.Native.Nat.{_/_, _<_, _≤_};
+ghost use mathlib.Core.List.{[], _∷_};
+ghost use Prim.Native.Nat.{_/_, _+_, _<_};
 ghost use lib.ListN.{length};
-ghost use Rattle.model.specs.Rules.{rule};
-ghost use Rattle.model.specs.Rounds.{attempt, lags-from, targets-from, three-rules, event-rules, events-from, round};
-ghost use Rattle.model.proofs.Standing.{Sane};
-ghost use Rattle.rules.specs.Values.{variant-of};
-ghost use Rattle.rounds.specs.State.{job-at, Held, Aimed, Made, lag-rules};
-ghost use Rattle.rounds.specs.Sweeps.{Leaves, two-rules};
+ghost use Rattle.model.specs.Rules.{level, time, height};
+ghost use Rattle.model.specs.Agenda.{try, lag-attempts, target-attempts, three-attempts, event-attempts, agenda};
+ghost use Rattle.tables.specs.Job.{Fit};
+ghost use Rattle.rounds.specs.State.{Held, Made};
+ghost use Rattle.rounds.specs.Sweeps.{Sees, Three, Leaves, two-attempts, lags-attempts, events-attempts};
 
-// Rule r at e with target y. In rules 5, 8, 11 and 14 y is passed over where s, what e's level leaves over its limit, does not move it.
-fn try_target(
-    b: &mut [i32; 256],
-    lags: &[i32],
-    k: Job,
-    r: usize,
-    v: Variant,
-    e: usize,
-    s: Height,
-    y: usize,
-    buffer: &mut [i32],
-    p: Progress,
-) -> Progress
-    requires { ⌜
-        Sane (job-at k (now lags))
-        × Held (k .events) (now b) (now buffer) p
-        × Aimed (job-at k (now lags)) r e y
-        × (variant-of v ≡ rule r)
-        × (e < k .events)
-        × Leaves v k (now b) e (s .0)
-        ⌝ }
-    ensures { λ q. ⌜
-        Made (k .events) (attempt (length (now (buffer .entry))) r (job-at k (now (lags .entry))) e y)
-        (now (b .entry)) (now (buffer .entry)) p (now (b .exit)) (now (buffer .exit)) q
-        × Leaves v k (now (b .exit)) e (s .0)
-        ⌝ }
-{
-    let family = v.family;
-    if (family == 2) & !is_moved(b, v.mirror, v.strict, e, s, y) {
-        return p;
-    }
-    attempt(b, lags, k, r, e, y, buffer, p)
-}
-
-// Rule r at e with every target in event order. In rules 5, 8, 11 and 14 the level is added up once: no target moves an end that it reads.
-pub fn targets_from(
-    b: &mut [i32; 256],
-    lags: &[i32],
-    k: Job,
-    r: usize,
-    e: usize,
-    buffer: &mut [i32],
-    p: Progress,
-) -> Progress
-    requires { ⌜ Sane (job-at k (now lags)) × Held (k .events) (now b) (now buffer) p × (3 ≤ r) × (r ≤ 14) × (e < k .events) ⌝ }
-    ensures { λ q. ⌜
-        Made (k .events) (targets-from (length (now (buffer .entry))) (job-at k (now (lags .entry))) r e 0 (k .events))
-        (now (b .entry)) (now (buffer .entry)) p (now (b .exit)) (now (buffer .exit)) q
-        ⌝ }
-{
-    let n = k.events;
-    let v = variant(r);
-    let family = v.family;
-    let s = slack(b, n, k.reservoir, v.mirror, v.strict, e);
-    if (family == 2) & !is_any_moved(b, n, v.mirror, v.strict, e, s) {
-        return p;
-    }
-    let mut q = p;
-    let mut y: usize = 0;
-    while y < n {
-        q = try_target(b, lags, k, r, v, e, s, y, buffer, q);
-        y += 1;
-    }
-    q
-}
+// ---- lags
 
 // Rules 1 and 2 of lag g, unless both leave the windows as they are.
 pub fn lag_rules(
@@ -99,9 +35,9 @@ pub fn lag_rules(
     buffer: &mut [i32],
     p: Progress,
 ) -> Progress
-    requires { ⌜ Sane (job-at k (now lags)) × Held (k .events) (now b) (now buffer) p × (g < length (now lags) / 3) ⌝ }
+    requires { ⌜ Fit k (now lags) × Held (k .events) (now b) (now buffer) p × (g < length (now lags) / 3) ⌝ }
     ensures { λ q. ⌜
-        Made (k .events) (lag-rules (length (now (buffer .entry))) (job-at k (now (lags .entry))) g)
+        Made k (now (lags .entry)) (λ j. lag-attempts j g)
         (now (b .entry)) (now (buffer .entry)) p (now (b .exit)) (now (buffer .exit)) q
         ⌝ }
 {
@@ -115,16 +51,16 @@ pub fn lag_rules(
 }
 
 // All lags in table order.
-pub fn lags_from(
+pub fn all_lags(
     b: &mut [i32; 256],
     lags: &[i32],
     k: Job,
     buffer: &mut [i32],
     p: Progress,
 ) -> Progress
-    requires { ⌜ Sane (job-at k (now lags)) × Held (k .events) (now b) (now buffer) p ⌝ }
+    requires { ⌜ Fit k (now lags) × Held (k .events) (now b) (now buffer) p ⌝ }
     ensures { λ q. ⌜
-        Made (k .events) (lags-from (length (now (buffer .entry))) (job-at k (now (lags .entry))) 0 (length (now (lags .entry)) / 3))
+        Made k (now (lags .entry)) lags-attempts
         (now (b .entry)) (now (buffer .entry)) p (now (b .exit)) (now (buffer .exit)) q
         ⌝ }
 {
@@ -138,52 +74,123 @@ pub fn lags_from(
     q
 }
 
-// Rules r and r + 1 at e with target e. In rules 3 and 4, 6 and 7, 9 and 10, 12 and 13 both are passed over where e's level reaches the limit already at e's earliest minute.
+// ---- rules 3 to 14 at an event e, each in its view
+
+// Rules r and r + 1 with target e: 3 and 4, 6 and 7, 9 and 10, 12 and 13. Both are passed over where e's level reaches the limit already at e's earliest minute.
 fn two_rules(
     b: &mut [i32; 256],
     lags: &[i32],
     k: Job,
     r: usize,
-    e: usize,
+    view: View,
     buffer: &mut [i32],
     p: Progress,
 ) -> Progress
-    requires { ⌜ Sane (job-at k (now lags)) × Held (k .events) (now b) (now buffer) p × (3 ≤ r) × (r ≤ 12) × (e < k .events) ⌝ }
+    requires { ⌜
+        Fit k (now lags)
+        × Held (k .events) (now b) (now buffer) p
+        × Sees k r level view
+        × Sees k (r + 1) time view
+        ⌝ }
     ensures { λ q. ⌜
-        Made (k .events) (two-rules (length (now (buffer .entry))) (job-at k (now (lags .entry))) r e)
+        Made k (now (lags .entry)) (λ j. two-attempts r (view .subject))
         (now (b .entry)) (now (buffer .entry)) p (now (b .exit)) (now (buffer .exit)) q
         ⌝ }
 {
-    let v = variant(r);
-    let family = v.family;
-    if (family == 0) & reaches_early(b, k.events, k.reservoir, v.mirror, v.strict, e) {
+    if reaches_early(b, view) {
         return p;
     }
+    let e = view.subject;
     let q = attempt(b, lags, k, r, e, e, buffer, p);
     attempt(b, lags, k, r + 1, e, e, buffer, q)
 }
 
-// Three rules in a row at e: r and r + 1 with target e, then r + 2 with every target.
-pub fn three_rules(
+// Rule r, which is 5, 8, 11 or 14, with target y: passed over where s, what e's level leaves over its limit, does not move y.
+fn try_target(
     b: &mut [i32; 256],
     lags: &[i32],
     k: Job,
     r: usize,
+    view: View,
+    s: Height,
+    y: usize,
+    buffer: &mut [i32],
+    p: Progress,
+) -> Progress
+    requires { ⌜
+        Fit k (now lags)
+        × Held (k .events) (now b) (now buffer) p
+        × Sees k r height view
+        × Leaves view (now b) (s .0)
+        × (y < k .events)
+        ⌝ }
+    ensures { λ q. ⌜
+        Made k (now (lags .entry)) (λ j. try r (view .subject) y ∷ [])
+        (now (b .entry)) (now (buffer .entry)) p (now (b .exit)) (now (buffer .exit)) q
+        × Leaves view (now (b .exit)) (s .0)
+        ⌝ }
+{
+    if !is_moved(b, view, s, y) {
+        return p;
+    }
+    let e = view.subject;
+    attempt(b, lags, k, r, e, y, buffer, p)
+}
+
+// Such a rule with every target in event order. The level is added up once: no target moves an end that it reads.
+fn all_targets(
+    b: &mut [i32; 256],
+    lags: &[i32],
+    k: Job,
+    r: usize,
+    view: View,
+    buffer: &mut [i32],
+    p: Progress,
+) -> Progress
+    requires { ⌜ Fit k (now lags) × Held (k .events) (now b) (now buffer) p × Sees k r height view ⌝ }
+    ensures { λ q. ⌜
+        Made k (now (lags .entry)) (λ j. target-attempts j r (view .subject))
+        (now (b .entry)) (now (buffer .entry)) p (now (b .exit)) (now (buffer .exit)) q
+        ⌝ }
+{
+    let n = k.events;
+    let s = slack(b, view);
+    if !is_any_moved(b, view, s) {
+        return p;
+    }
+    let mut q = p;
+    let mut y: usize = 0;
+    while y < n {
+        q = try_target(b, lags, k, r, view, s, y, buffer, q);
+        y += 1;
+    }
+    q
+}
+
+// Three rules in a row at e, of a side, before (strict) or by: r and r + 1 with target e, then r + 2 with every target.
+fn three_rules(
+    b: &mut [i32; 256],
+    lags: &[i32],
+    k: Job,
+    r: usize,
+    m: bool,
+    strict: bool,
     e: usize,
     buffer: &mut [i32],
     p: Progress,
 ) -> Progress
-    requires { ⌜ Sane (job-at k (now lags)) × Held (k .events) (now b) (now buffer) p × (3 ≤ r) × (r ≤ 12) × (e < k .events) ⌝ }
+    requires { ⌜ Fit k (now lags) × Held (k .events) (now b) (now buffer) p × (e < k .events) × Three r m strict ⌝ }
     ensures { λ q. ⌜
-        Made (k .events) (three-rules (length (now (buffer .entry))) (job-at k (now (lags .entry))) r e)
+        Made k (now (lags .entry)) (λ j. three-attempts j r e)
         (now (b .entry)) (now (buffer .entry)) p (now (b .exit)) (now (buffer .exit)) q
         ⌝ }
 {
-    let q = two_rules(b, lags, k, r, e, buffer, p);
-    targets_from(b, lags, k, r + 2, e, buffer, q)
+    let view = view(k.reservoir, k.events, m, strict, e);
+    let q = two_rules(b, lags, k, r, view, buffer, p);
+    all_targets(b, lags, k, r + 2, view, buffer, q)
 }
 
-// Rules 3 to 14 at e.
+// Rules 3 to 14 at e: before, its mirror, by, its mirror.
 pub fn event_rules(
     b: &mut [i32; 256],
     lags: &[i32],
@@ -192,29 +199,31 @@ pub fn event_rules(
     buffer: &mut [i32],
     p: Progress,
 ) -> Progress
-    requires { ⌜ Sane (job-at k (now lags)) × Held (k .events) (now b) (now buffer) p × (e < k .events) ⌝ }
+    requires { ⌜ Fit k (now lags) × Held (k .events) (now b) (now buffer) p × (e < k .events) ⌝ }
     ensures { λ q. ⌜
-        Made (k .events) (event-rules (length (now (buffer .entry))) (job-at k (now (lags .entry))) e)
+        Made k (now (lags .entry)) (λ j. event-attempts j e)
         (now (b .entry)) (now (buffer .entry)) p (now (b .exit)) (now (buffer .exit)) q
         ⌝ }
 {
-    let before = three_rules(b, lags, k, 3, e, buffer, p);
-    let mirrored = three_rules(b, lags, k, 6, e, buffer, before);
-    let by = three_rules(b, lags, k, 9, e, buffer, mirrored);
-    three_rules(b, lags, k, 12, e, buffer, by)
+    let before = three_rules(b, lags, k, 3, false, true, e, buffer, p);
+    let mirrored = three_rules(b, lags, k, 6, true, true, e, buffer, before);
+    let by = three_rules(b, lags, k, 9, false, false, e, buffer, mirrored);
+    three_rules(b, lags, k, 12, true, false, e, buffer, by)
 }
 
+// ---- a round
+
 // All events in order. All are passed over where the limits are far off, and an event where a floor under its levels shows that no rule does anything at it; d is the largest width of an amount window as it then stands.
-pub fn events_from(
+pub fn all_events(
     b: &mut [i32; 256],
     lags: &[i32],
     k: Job,
     buffer: &mut [i32],
     p: Progress,
 ) -> Progress
-    requires { ⌜ Sane (job-at k (now lags)) × Held (k .events) (now b) (now buffer) p ⌝ }
+    requires { ⌜ Fit k (now lags) × Held (k .events) (now b) (now buffer) p ⌝ }
     ensures { λ q. ⌜
-        Made (k .events) (events-from (length (now (buffer .entry))) (job-at k (now (lags .entry))) 0 (k .events))
+        Made k (now (lags .entry)) events-attempts
         (now (b .entry)) (now (buffer .entry)) p (now (b .exit)) (now (buffer .exit)) q
         ⌝ }
 {
@@ -237,12 +246,12 @@ pub fn events_from(
 
 // A round: lags in table order, then events in order.
 pub fn round(b: &mut [i32; 256], lags: &[i32], k: Job, buffer: &mut [i32], p: Progress) -> Progress
-    requires { ⌜ Sane (job-at k (now lags)) × Held (k .events) (now b) (now buffer) p ⌝ }
+    requires { ⌜ Fit k (now lags) × Held (k .events) (now b) (now buffer) p ⌝ }
     ensures { λ q. ⌜
-        Made (k .events) (round (length (now (buffer .entry))) (job-at k (now (lags .entry))))
+        Made k (now (lags .entry)) agenda
         (now (b .entry)) (now (buffer .entry)) p (now (b .exit)) (now (buffer .exit)) q
         ⌝ }
 {
-    let q = lags_from(b, lags, k, buffer, p);
-    events_from(b, lags, k, buffer, q)
+    let q = all_lags(b, lags, k, buffer, p);
+    all_events(b, lags, k, buffer, q)
 }

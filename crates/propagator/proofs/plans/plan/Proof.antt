@@ -1,9 +1,14 @@
--- `propagator::plans::plan` answers and leaves both tables as the model's planner does: refused with every word kept, or planned. Assumes nothing.
+-- `propagator::plans::plan` answers and leaves both tables as the definitions' planner does: refused with every word kept, or planned. Assumes nothing.
+use mathlib.Core.Path.{refl}
 use mir.Facts.{toZ-ofZ}
+use Rattle.model.specs.Job.{job}
 use Rattle.propagator.proofs.Planning.{plan-refused, plan-asks, plan-passed}
 use borrow.Author.Needs.{needs}
 use Rattle.propagator.proofs.plans.plan.Statement.{statement}
 use Rattle.propagator.proofs.plans.plan.Tie as tie
+
+job-of-requires : tie.Need-job-of-requires
+job-of-requires c κs = search needs
 
 questions-requires : tie.Need-questions-requires
 questions-requires c κs = search needs
@@ -14,26 +19,26 @@ enum-known-check c = search needs
 enum-told : tie.Need-enum-told
 enum-told c = search needs
 
-task-requires : tie.Need-task-requires
-task-requires c κs = search needs
-
 planned-requires : tie.Need-planned-requires
 planned-requires c κs =
     let s = c .before .before .before .before .before .before .before in
     let a = s .args in
-    plan-asks (a .h) (a .low) (a .high) (a .q) (a .table .now) (a .lags .now) (a .buffer .now)
-    (rw (toZ-ofZ (s .fits .h), toZ-ofZ (s .fits .low), toZ-ofZ (s .fits .high), toZ-ofZ (s .fits .q)) at (c .before .before .before .before .before .questions .ensures))
-    (rw (toZ-ofZ (s .fits .h), toZ-ofZ (s .fits .low), toZ-ofZ (s .fits .high), toZ-ofZ (s .fits .q)) at (c .before .before .task .ensures))
-    (c .before .before .before .enum-told .given .1)
+    let j = job (a .h) (a .low) (a .high) (a .q) (a .table .now) (a .lags .now) in
+    let of = rw (toZ-ofZ (s .fits .h), toZ-ofZ (s .fits .low), toZ-ofZ (s .fits .high), toZ-ofZ (s .fits .q)) at (c .before .before .before .before .before .before .job-of .ensures) in
+    let h = of (a .table .now) (a .lags .now) refl in
+    plan-asks j (a .buffer .now) h (c .before .before .before .before .questions .ensures j h refl) (c .before .before .enum-told .given .1)
 
 same-length : tie.Need-same-length
 same-length c = search needs
 
 returns : tie.Need-returns
 returns c =
-    let s = c .before .before .before .before .before in
+    let s = c .before .before .before .before .before .before in
     let a = s .args in
-    let o = plan-refused (a .h) (a .low) (a .high) (a .q) (a .table .now) (a .lags .now) (a .buffer .now) (rw (toZ-ofZ (s .fits .h), toZ-ofZ (s .fits .low), toZ-ofZ (s .fits .high), toZ-ofZ (s .fits .q)) at (c .before .before .before .questions .ensures)) (c .before .check .given .1) in
+    let j = job (a .h) (a .low) (a .high) (a .q) (a .table .now) (a .lags .now) in
+    let of = rw (toZ-ofZ (s .fits .h), toZ-ofZ (s .fits .low), toZ-ofZ (s .fits .high), toZ-ofZ (s .fits .q)) at (c .before .before .before .before .before .job-of .ensures) in
+    let h = of (a .table .now) (a .lags .now) refl in
+    let o = plan-refused j (a .buffer .now) h (c .before .before .before .questions .ensures j h refl) (c .before .check .given .1) in
     (o .answer, (o .windows, o .slips))
 
 same-length-2 : tie.Need-same-length-2
@@ -46,17 +51,20 @@ returns-2 : tie.Need-returns-2
 returns-2 c =
     let s = c .before .before .before .before .before .before .before .before .before .before in
     let a = s .args in
-    let o = plan-passed (a .h) (a .low) (a .high) (a .q) (a .table .now) (a .lags .now) (a .buffer .now) (rw (toZ-ofZ (s .fits .h), toZ-ofZ (s .fits .low), toZ-ofZ (s .fits .high), toZ-ofZ (s .fits .q)) at (c .before .before .before .before .before .before .before .before .questions .ensures)) (rw (toZ-ofZ (s .fits .h), toZ-ofZ (s .fits .low), toZ-ofZ (s .fits .high), toZ-ofZ (s .fits .q)) at (c .before .before .before .before .before .task .ensures)) (c .before .before .before .before .before .before .enum-told .given .1) (c .before .before .planned .ensures) in
+    let j = job (a .h) (a .low) (a .high) (a .q) (a .table .now) (a .lags .now) in
+    let of = rw (toZ-ofZ (s .fits .h), toZ-ofZ (s .fits .low), toZ-ofZ (s .fits .high), toZ-ofZ (s .fits .q)) at (c .before .before .before .before .before .before .before .before .before .job-of .ensures) in
+    let h = of (a .table .now) (a .lags .now) refl in
+    let o = plan-passed j (a .buffer .now) h (c .before .before .before .before .before .before .before .questions .ensures j h refl) (c .before .before .before .before .before .enum-told .given .1) (c .before .before .planned .ensures j h) in
     (o .answer, (o .windows, o .slips))
 
 pub plan-spec : {M : Type 1} → statement M
 plan-spec =
     tie.close
     (tie.spec
+    job-of-requires
     questions-requires
     enum-known-check
     enum-told
-    task-requires
     planned-requires
     same-length
     returns

@@ -3,13 +3,12 @@ use mathlib.Core.Path.{_∙_}
 use Prim.Native.Nat.{_-_}
 use native.Mathlib.Omega.{arith}
 use lib.ListN.{length}
-use Rattle.rounds.specs.State.{job-at}
 use Rattle.propagator.proofs.Running.{Rolling, rolling-start, rolling-ends, rolling-settles, rolling-on}
 use Rattle.propagator.proofs.runs.run.Statement.{statement}
 use Rattle.propagator.proofs.runs.run.Tie as tie
 
 abbrev Inv-loop : tie.InvT-loop
-Inv-loop b₀ lags k buffer₀ p₀ rounds₀ b buffer p rounds = Rolling (k .events) (job-at k lags) b₀ buffer₀ b buffer p rounds
+Inv-loop b₀ lags k buffer₀ p₀ rounds₀ b buffer p rounds = Rolling k lags b₀ buffer₀ b buffer p rounds
 
 abbrev μ-loop : tie.MeasureT-loop
 μ-loop b₀ lags k buffer₀ p₀ rounds₀ b buffer p rounds = length buffer₀ - p .slips
@@ -18,7 +17,7 @@ start-requires : tie.Need-start-requires Inv-loop μ-loop
 start-requires c κs = tt
 
 loop-holds : tie.Need-loop-holds Inv-loop μ-loop
-loop-holds c = rolling-start _ (c .before .pre .1) (c .start .ensures)
+loop-holds c = let s = c .before in rolling-start (s .args .k) (s .args .lags .now) (s .pre .1) (c .start .ensures)
 
 round-requires : tie.Need-round-requires Inv-loop μ-loop
 round-requires c κs = (c .before .before .before .before .pre .0, c .before .before .loop .inv .grown .held)

@@ -2,13 +2,13 @@
 use mathlib.Core.Path.{refl}
 use Prim.Native.Nat.{_≤_}
 use native.Mathlib.Omega.{arith}
-use Rattle.rounds.proofs.Trying.{puts, writes, stop-made, slip-made}
+use Rattle.rounds.proofs.Trying.{writes, few-facts, stop-made, slip-made}
 use borrow.Author.Needs.{needs}
 use Rattle.rounds.proofs.attempts.act.Statement.{statement}
 use Rattle.rounds.proofs.attempts.act.Tie as tie
 
 citing-requires : tie.Need-citing-requires
-citing-requires c κs = let s = c .before in (puts (s .pre .0) (s .pre .1) (s .pre .2), s .pre .3)
+citing-requires c κs = search needs
 
 add-if1 : tie.Need-add-if1
 add-if1 c = search needs
@@ -16,8 +16,7 @@ add-if1 c = search needs
 put-slip-requires : tie.Need-put-slip-requires
 put-slip-requires c κs =
     let s = c .before .before .before .before .before in
-    let w = writes (s .pre .0) (s .pre .1) (s .pre .2) (s .pre .3) (s .pre .4) (c .before .before .before .citing .ensures) refl in
-    (w .ranged, w .first, w .last, w .subject, w .target, omega arith)
+    (writes (s .pre .0) (s .pre .1) (s .pre .2) (s .pre .3) (c .before .before .before .citing .ensures), omega arith)
 
 store-requires : tie.Need-store-requires
 store-requires c κs = search needs
@@ -34,8 +33,8 @@ same-length c = search needs
 returns : tie.Need-returns
 returns c =
     let s = c .before .before .before .before .before .before .before .before .before .before .before in
-    let w = writes (s .pre .0) (s .pre .1) (s .pre .2) (s .pre .3) (s .pre .4) (c .before .before .before .before .before .before .before .before .before .citing .ensures) refl in
-    slip-made (s .pre .0) (s .pre .1) (s .pre .2) (s .pre .3) (s .pre .4) (c .before .before .before .before .before .before .before .before .before .citing .ensures) refl (omega (arith, w .few)) (c .before .before .before .before .before .put-slip .ensures) (c .before .before .store .ensures) (c .status-after .ensures)
+    let cited = c .before .before .before .before .before .before .before .before .before .citing .ensures in
+    slip-made (s .pre .0) (s .pre .1) (s .pre .2) (s .pre .3) cited refl (omega (arith, few-facts (s .pre .0) (s .pre .1) (s .pre .2) (s .pre .3) cited)) (c .before .before .before .before .before .put-slip .ensures) (c .before .before .store .ensures) (c .status-after .ensures)
 
 count-premises-requires : tie.Need-count-premises-requires
 count-premises-requires c κs = search needs
@@ -44,7 +43,8 @@ count-premises-requires c κs = search needs
 few : (c : tie.After-count-premises) → c .count-premises .result ≤ 256
 few c =
     let s = c .before .before .before .before .before in
-    writes (s .pre .0) (s .pre .1) (s .pre .2) (s .pre .3) (s .pre .4) (c .before .before .before .citing .ensures) (c .count-premises .ensures) .few
+    let f = few-facts (s .pre .0) (s .pre .1) (s .pre .2) (s .pre .3) (c .before .before .before .citing .ensures) in
+    omega (arith, c .count-premises .ensures)
 
 mul-if2 : tie.Need-mul-if2
 mul-if2 c = omega (arith, few c)
@@ -61,12 +61,12 @@ stop-requires c κs = search needs
 returns-2 : tie.Need-returns-2
 returns-2 c =
     let s = c .before .before .before .before .before .before .before in
-    stop-made (s .pre .0) (s .pre .1) (s .pre .2) (s .pre .3) (s .pre .4) (c .before .before .before .before .before .citing .ensures) (c .before .before .count-premises .ensures) (c .before .if2 .taken) (c .stop .ensures)
+    stop-made (s .pre .0) (s .pre .1) (s .pre .2) (s .pre .3) (c .before .before .before .before .before .citing .ensures) (c .before .before .count-premises .ensures) (c .before .if2 .taken) (c .stop .ensures)
 
 append-slip-requires : tie.Need-append-slip-requires
 append-slip-requires c κs =
     let s = c .before .before .before .before .before .before .before .before in
-    (writes (s .pre .0) (s .pre .1) (s .pre .2) (s .pre .3) (s .pre .4) (c .before .before .before .before .before .before .citing .ensures) (c .before .before .before .count-premises .ensures), omega arith)
+    (writes (s .pre .0) (s .pre .1) (s .pre .2) (s .pre .3) (c .before .before .before .before .before .before .citing .ensures), c .before .before .before .count-premises .ensures, omega arith)
 
 store-requires-2 : tie.Need-store-requires-2
 store-requires-2 c κs = search needs
@@ -83,7 +83,7 @@ same-length-2 c = search needs
 returns-3 : tie.Need-returns-3
 returns-3 c =
     let s = c .before .before .before .before .before .before .before .before .before .before .before .before .before .before in
-    slip-made (s .pre .0) (s .pre .1) (s .pre .2) (s .pre .3) (s .pre .4) (c .before .before .before .before .before .before .before .before .before .before .before .before .citing .ensures) (c .before .before .before .before .before .before .before .before .before .count-premises .ensures) (c .before .before .before .before .before .before .before .before .if2 .left) (c .before .before .before .before .before .append-slip .ensures) (c .before .before .store2 .ensures) (c .status-after2 .ensures)
+    slip-made (s .pre .0) (s .pre .1) (s .pre .2) (s .pre .3) (c .before .before .before .before .before .before .before .before .before .before .before .before .citing .ensures) (c .before .before .before .before .before .before .before .before .before .count-premises .ensures) (c .before .before .before .before .before .before .before .before .if2 .left) (c .before .before .before .before .before .append-slip .ensures) (c .before .before .store2 .ensures) (c .status-after2 .ensures)
 
 pub act-spec : {M : Type 1} → statement M
 act-spec =

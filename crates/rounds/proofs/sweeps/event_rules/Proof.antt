@@ -1,5 +1,4 @@
 -- `rounds::sweeps::event_rules` makes rules 3 to 14 at an event. Assumes nothing.
-use Rattle.rounds.specs.State.{job-at}
 use Rattle.rounds.proofs.Moves.{event-made}
 use borrow.Author.Needs.{needs}
 use Rattle.rounds.proofs.sweeps.event_rules.Statement.{statement}
@@ -21,12 +20,7 @@ same-length : tie.Need-same-length
 same-length c = search needs
 
 returns : tie.Need-returns
-returns c =
-    let a = c .before .before .before .before .before .before .before .before .before .before .before .before .before .before .before .before .args in
-    event-made (job-at (a .k) (a .lags .now)) (a .e)
-    (c .before .before .before .before .before .before .before .before .before .before .before .before .before .three-rules .ensures)
-    (c .before .before .before .before .before .before .before .before .before .three-rules2 .ensures)
-    (c .before .before .before .before .before .three-rules3 .ensures) (c .before .three-rules4 .ensures)
+returns c = event-made (c .before .before .before .before .before .before .before .before .before .before .before .before .before .before .before .before .args .e) (c .before .before .before .before .before .before .before .before .before .before .before .before .before .three-rules .ensures) (c .before .before .before .before .before .before .before .before .before .three-rules2 .ensures) (c .before .before .before .before .before .three-rules3 .ensures) (c .before .three-rules4 .ensures)
 
 pub event-rules-spec : {M : Type 1} → statement M
 event-rules-spec =

@@ -1,28 +1,41 @@
--- `rounds::sweeps::three_rules` makes three rules in a row at an event. Assumes nothing.
-use Rattle.rounds.specs.State.{job-at}
-use Rattle.rounds.proofs.Moves.{three-made}
+-- `rounds::sweeps::three_rules` makes three rules in a row at an event, in one view. Assumes nothing.
+use Rattle.rounds.proofs.Moves.{subject-is, sees-level, sees-time, sees-height, three-made}
 use borrow.Author.Needs.{needs}
 use Rattle.rounds.proofs.sweeps.three_rules.Statement.{statement}
 use Rattle.rounds.proofs.sweeps.three_rules.Tie as tie
 
+view-requires : tie.Need-view-requires
+view-requires c κs = search needs
+
 two-rules-requires : tie.Need-two-rules-requires
-two-rules-requires c κs = search needs
+two-rules-requires c κs =
+    let s = c .before .before .before in
+    let v = c .before .before .view .ensures in
+    (s .pre .0, s .pre .1, sees-level (s .args .k) v (s .pre .2) (s .pre .3), sees-time (s .args .k) v (s .pre .2) (s .pre .3))
 
-add-targets-from : tie.Need-add-targets-from
-add-targets-from c = search needs
+add-all-targets : tie.Need-add-all-targets
+add-all-targets c = search needs
 
-targets-from-requires : tie.Need-targets-from-requires
-targets-from-requires c κs = search needs
+all-targets-requires : tie.Need-all-targets-requires
+all-targets-requires c κs =
+    let s = c .before .before .before .before .before .before .before in
+    (s .pre .0, c .before .before .before .two-rules .ensures .grown .held, sees-height (s .args .k) (c .before .before .before .before .before .before .view .ensures) (s .pre .2) (s .pre .3))
 
 same-length : tie.Need-same-length
 same-length c = search needs
 
 returns : tie.Need-returns
 returns c =
-    let a = c .before .before .before .before .before .before .before .before .args in
-    three-made (job-at (a .k) (a .lags .now)) (a .r) (a .e) (c .before .before .before .before .before .two-rules .ensures) (c .before .targets-from .ensures)
+    let s = c .before .before .before .before .before .before .before .before .before in
+    three-made (s .args .r) (s .args .e) (subject-is (c .before .before .before .before .before .before .before .before .view .ensures)) (c .before .before .before .before .before .two-rules .ensures) (c .before .all-targets .ensures)
 
 pub three-rules-spec : {M : Type 1} → statement M
 three-rules-spec =
     tie.close
-    (tie.spec two-rules-requires add-targets-from targets-from-requires same-length returns)
+    (tie.spec
+    view-requires
+    two-rules-requires
+    add-all-targets
+    all-targets-requires
+    same-length
+    returns)
