@@ -3,92 +3,87 @@
 use mathlib.Core.Path.{_≡_, refl, sym, ap, subst, _∙_}
 use mathlib.Core.Bool.{Bool, true, false, not, cond}
 use mathlib.Core.List.{List}
-use Prim.Native.Nat.{ℕ, _+_, _*_, _-_, _/_, _≤_}
+use Prim.Native.Nat.{ℕ, _+_, _*_, _≤_}
+use native.Mathlib.Omega.{arith}
 use lib.IntN.{ℤ, pos, natAbs}
 use lib.ListN.{length}
 use lib.Signed.{leZ}
-use borrow.Author.Tests.{eq-eqb, ne-eqb, not-true, not-false}
+use borrow.Author.Tests.{not-true, not-false}
 use Rattle.integers.specs.Range.{eqZ}
-use Rattle.integers.proofs.Tests.{and-yes, and-no, and-out, true-is}
-use Rattle.model.specs.Job.{windows, widest, Reservoir, job}
-use Rattle.model.specs.Questions.{pass, refuse, _then_, questions}
-use Rattle.model.specs.Reader.{at, stop-of, counted, read-from, read-all, judged, check}
+use Rattle.integers.proofs.Tests.{and-out, true-is}
+use Rattle.model.specs.Job.{widest, Job as Call, events}
+use Rattle.model.specs.Slips.{at}
+use Rattle.model.specs.Questions.{pass, refuse, questions}
+use Rattle.model.specs.Reader.{stop-of, counted, marked, ends-right, read-from, read-all, judged, check}
 use Rattle.model.specs.Reader as model
 use Rattle.model.proofs.Questions.{Asked, asked}
 use Rattle.tables.specs.Board.{board, table-of, Loaded}
+use Rattle.tables.specs.Job.{Holds}
+use Rattle.tables.specs.declared.Job.{Job}
 use Rattle.questions.specs.Asked.{check-of}
-use Rattle.rules.specs.Values.{job-of}
-use Rattle.checker.specs.Turns.{Called, Ends}
-use Rattle.judging.specs.Wide.{Wide}
-use Rattle.checker.specs.Verdict.{trailed, closed-at, reply-of, accepting, left-by, closing-reply, called, Passing, Trailed, read-over, found, Judges}
-use Rattle.checker.specs.declared.Ended.{Ended}
-use Rattle.checker.specs.declared.Ended.the-variants.{Done, Refused as Cut}
-use Rattle.checker.specs.declared.Tail.{Tail}
-use Rattle.checker.specs.declared.Verdict.{Verdict}
-use Rattle.checker.specs.declared.Verdict.the-variants.{Refused}
 use Rattle.questions.specs.declared.Refusal.{Refusal}
 use Rattle.questions.specs.declared.Check.{Check as Asks}
 use Rattle.questions.specs.declared.Check.the-variants.{Pass, Refuse}
+use Rattle.judging.specs.Ready.{call-of}
+use Rattle.judging.specs.Wide.{Wide}
+use Rattle.checker.specs.Turns.{board-call, Called, Ends}
+use Rattle.checker.specs.Judgement.{reply-of, accepting, left-by, closing-reply, Passing, Trailed, Judges}
+use Rattle.checker.specs.declared.SlipsRead.{SlipsRead}
+use Rattle.checker.specs.declared.SlipsRead.the-variants.{All, Refused as Cut}
+use Rattle.checker.specs.declared.Tail.{Tail}
+use Rattle.checker.specs.declared.Judgement.{Judgement}
+use Rattle.checker.specs.declared.Judgement.the-variants.{Refused}
 
--- ---- the trailer
+-- The code's job is the call's, all of it.
+pub call-is : {k : Job} {ws : List ℤ} {j : Call} → Holds k ws j → call-of k ws (j .window-table) ≡ j
+call-is h = rw (← h .horizon-is, ← h .reservoir-is, ← h .lags-are)
 
-module _ (list : List ℤ) {w : ℤ} {t : Bool} where
-  pub no-mark : w ≡ at list (stop-of list + 2) → t ≡ eqZ w (pos 4207) → not t ≡ true → false ≡ trailed list
-  no-mark e f g = and-no _ _ (sym (rw e at f) ∙ not-true t g) refl
+-- ---- the judgement on a reading
 
-  pub mark-then : {v : ℤ} {r : Bool} → w ≡ at list (stop-of list + 2) → t ≡ eqZ w (pos 4207) → not t ≡ false → v ≡ counted list → r ≡ leZ (pos 0) v → r ≡ trailed list
-  mark-then e f g h i = and-yes _ _ (sym (rw e at f) ∙ not-false t g) (rw h at i)
+module _ (k : Job) (ws list b b′ : List ℤ) where
+  abbrev n : ℕ
+  n = k .events
 
-pub not-at-end : (list : List ℤ) (after last : ℕ) → (after ≡ stop-of list → ⊥) → false ≡ closed-at list after last
-not-at-end list after last n = and-no _ _ (ne-eqb after (stop-of list) n) refl
+  abbrev j : Call
+  j = board-call k ws b
 
-pub at-end : (list : List ℤ) (after last : ℕ) {w : ℤ} {r : Bool} → after ≡ stop-of list → w ≡ at list (stop-of list + 1) → r ≡ eqZ w (pos last) → r ≡ closed-at list after last
-at-end list after last e f g = and-yes _ _ (eq-eqb after (stop-of list) e) (rw f at g)
+  abbrev reading-over : model.Read
+  reading-over = read-from j (widest j) list (stop-of list) (natAbs (counted list)) 0 0 0 false (table-of n b)
 
--- ---- the verdict on a reading
-
-module _ (table list left : List ℤ) where
-  abbrev all-read : Tail → model.Read
-  all-read t = record { check = pass; conflicting = t .conflict; table = left; after = t .after; last = t .last }
+  abbrev Judged : Judgement → Type 0
+  Judged v = Judges (judged j list (read-all j list)) (left-by v (table-of n b′) (table-of n b)) v
 
   -- All slips read: question 19 decides, and the windows left follow it.
-  closed-judged : (t : Tail) (k : Bool) → closed-at list (t .after) (t .last) ≡ k → (v : Verdict) → reply-of v ≡ closing-reply list t →
-      Judges (judged table list (all-read t)) (left-by v left table) v
+  closed-judged : (t : Tail) (c : Bool) → ends-right list (t .after) (t .last) ≡ c → (v : Judgement) → reply-of v ≡ closing-reply list t →
+      Judges (judged j list (record { check = pass; conflicting = t .conflict; table = table-of n b′; after = t .after; last = t .last })) (left-by v (table-of n b′) (table-of n b)) v
   closed-judged t true e v g = record { answer = g ∙ rw (judged, e) refl; windows = rw (g, judged, e) refl }
   closed-judged t false e v g = record { answer = g ∙ rw (judged, e) refl; windows = rw (g, judged, e) refl }
 
   -- A refused slip: no window is left narrowed.
-  cut-judged : (r : model.Read) (k : Refusal) → r .check ≡ refuse (k .number) (k .place) → Judges (judged table list r) (left-by (Refused k) left table) (Refused k)
-  cut-judged r k e = record { answer = rw (judged, e) refl; windows = rw (judged, e) refl }
+  cut-judged : (r : model.Read) (q : Refusal) → r .check ≡ refuse (q .number) (q .place) → Judges (judged j list r) (left-by (Refused q) (table-of n b′) (table-of n b)) (Refused q)
+  cut-judged r q e = record { answer = rw (judged, e) refl; windows = rw (judged, e) refl }
 
-module _ (h : ℤ) (c : Reservoir) (n : ℕ) (lags list b b′ : List ℤ) where
-  abbrev reading-over : model.Read
-  reading-over = read-from (job-of h c n lags) (widest h (windows (table-of n b))) list (stop-of list) (natAbs (counted list)) 0 0 0 false (table-of n b)
-
-  module _ {e : Ended} (ends : Ends n reading-over b′ (stop-of list) e) where
-    pub judges-cut : (k : Refusal) → e ≡ Cut k → Judges (read-over (job-of h c n lags) (table-of n b) list) (left-by (Refused k) (table-of n b′) (table-of n b)) (Refused k)
+  module _ {e : SlipsRead} (ends : Ends n reading-over b′ (stop-of list) e) where
+    pub judges-cut : (q : Refusal) → e ≡ Cut q → Judged (Refused q)
     unfolding read-all
-    judges-cut k f = cut-judged (table-of n b) list (table-of n b′) reading-over k (subst (Ends n reading-over b′ (stop-of list)) f ends)
+    judges-cut q f = cut-judged reading-over q (subst (Ends n reading-over b′ (stop-of list)) f ends)
 
-    module _ (t : Tail) (f : e ≡ Done t) where
-      done-out : Ends n reading-over b′ (stop-of list) (Done t)
-      done-out = subst (Ends n reading-over b′ (stop-of list)) f ends
+    module _ (t : Tail) (f : e ≡ All t) where
+      all-out : Ends n reading-over b′ (stop-of list) (All t)
+      all-out = subst (Ends n reading-over b′ (stop-of list)) f ends
 
       pub last-in : t .last ≤ stop-of list
-      last-in = done-out .2
+      last-in = all-out .2
 
-      pub judges-done : {v : Verdict} → reply-of v ≡ closing-reply list t → Judges (read-over (job-of h c n lags) (table-of n b) list) (left-by v (table-of n b′) (table-of n b)) v
+      pub judges-all : {v : Judgement} → reply-of v ≡ closing-reply list t → Judged v
       unfolding read-all
-      judges-done {v} g = rw (done-out .0) (closed-judged (table-of n b) list (table-of n b′) t _ refl v g)
+      judges-all {v} g = rw (all-out .0) (closed-judged t _ refl v g)
 
 -- ---- the call read
 
-module _ (h : ℤ) (c : Reservoir) (table lags list : List ℤ) (p : Passing (called h c) table lags list) where
-  abbrev n : ℕ
-  n = length table / 4
-
-  facts : Asked h (c .min-level) (c .max-level) (c .initial) table lags (length list)
-  facts = asked h (c .min-level) (c .max-level) (c .initial) table lags (length list) (p .asked)
+module _ (k : Job) (ws table list : List ℤ) (p : Passing k ws table list) where
+  facts : Asked (call-of k ws table) (length list)
+  facts = asked (call-of k ws table) (length list) (p .asked)
 
   pub trailer-right : Trailed list
   trailer-right =
@@ -98,44 +93,41 @@ module _ (h : ℤ) (c : Reservoir) (table lags list : List ℤ) (p : Passing (ca
         sign = and-out (eqZ (at list (stop-of list + 2)) (pos 4207)) (leZ (pos 0) (counted list)) (true-is (p .trailer)) .1;
       }
 
-  pub few : n ≤ 64
-  few = facts .sane .few-events
+  pub few : k .events ≤ 64
+  few = let l = facts .sane .few-events in omega (arith, p .events-are)
 
-  pub whole-events : length table ≡ 4 * n
-  whole-events = facts .whole-events
+  pub whole-events : length table ≡ 4 * k .events
+  whole-events = omega (arith, p .events-are, facts .whole-events)
 
-  module _ (b wide : List ℤ) (loaded : Loaded n table b) (opened : Wide n h (board b) wide) where
-    pub call : Called h lags n c wide b
-    call = record { sane = facts .sane; standing = rw (loaded .is) (facts .standing); whole = loaded .whole; opened = opened }
+  module _ (b wide : List ℤ) (loaded : Loaded (k .events) table b) (opened : Wide (k .events) (k .horizon .0) (board b) wide) where
+    pub call : Called k ws wide b
+    call = record { sane = rw (loaded .is) (facts .sane); standing = rw (loaded .is) (facts .standing); whole = loaded .whole; opened = opened }
 
-    -- The windows stored follow the verdict.
-    pub stored : (b′ : List ℤ) {table′ : List ℤ} (v : Verdict) {whole : Bool} → whole ≡ accepting v → table′ ≡ cond whole (table-of n b′) table →
-        Judges (read-over (job-of h c n lags) (table-of n b) list) (left-by v (table-of n b′) (table-of n b)) v → Judges (found (called h c) table lags list) table′ v
-    stored b′ v e w o = let p = rw (loaded .is) at o in record { answer = p .answer; windows = w ∙ rw e (p .windows) }
+    -- The windows stored follow the judgement.
+    pub stored : (b′ : List ℤ) {table′ : List ℤ} (v : Judgement) {whole : Bool} → whole ≡ accepting v → table′ ≡ cond whole (table-of (k .events) b′) table →
+        Judges (judged (board-call k ws b) list (read-all (board-call k ws b) list)) (left-by v (table-of (k .events) b′) (table-of (k .events) b)) v →
+        Judges (judged (call-of k ws table) list (read-all (call-of k ws table) list)) table′ v
+    stored b′ v e w o = let q = rw (loaded .is) at o in record { answer = q .answer; windows = w ∙ rw e (q .windows) }
 
 -- ---- questions 1 to 12
 
-module _ (h low high q : ℤ) (table lags list : List ℤ) {x : Asks} (ea : check-of x ≡ questions (job h low high q table lags) table (length list)) where
-  pub check-refused : (r : Refusal) → x ≡ Refuse r → Judges (check h low high q table lags list) table (Refused r)
+module _ (j : Call) (list : List ℤ) {x : Asks} (ea : check-of x ≡ questions j (length list)) where
+  pub check-refused : (r : Refusal) → x ≡ Refuse r → Judges (check j list) (j .window-table) (Refused r)
   unfolding check
   check-refused r f = rw (check, sym ea ∙ ap check-of f) (record { answer = refl; windows = refl })
 
   module _ (f : x ≡ Pass) where
-    passes : questions (job h low high q table lags) table (length list) ≡ pass
+    pub passes : questions j (length list) ≡ pass
     passes = sym ea ∙ ap check-of f
 
     pub room-there : 3 ≤ length list
-    room-there = asked h low high q table lags (length list) passes .room-low
+    room-there = asked j (length list) passes .room-low
 
-    module _ {k : Bool} (ek : k ≡ trailed list) where
-      pub check-unmarked : not k ≡ true → Judges (check h low high q table lags list) table (Refused (record { number = 12; place = 0 }))
+    module _ {c : Bool} (ec : c ≡ marked list) where
+      pub check-unmarked : not c ≡ true → Judges (check j list) (j .window-table) (Refused (record { number = 12; place = 0 }))
       unfolding check
-      check-unmarked z = rw (check, passes, sym ek ∙ not-true k z) (record { answer = refl; windows = refl })
+      check-unmarked z = rw (check, passes, sym ec ∙ not-true c z) (record { answer = refl; windows = refl })
 
-      module _ (z : not k ≡ false) where
-        pub check-passing : {d : ℤ} {c : Reservoir} → d ≡ h → c ≡ record { min-level = low; max-level = high; initial = q } → Passing (called d c) table lags list
-        check-passing e i = rw (e, i) (record { asked = passes; trailer = sym ek ∙ not-false k z })
-
-        pub check-judged : {d : ℤ} {c : Reservoir} → d ≡ h → c ≡ record { min-level = low; max-level = high; initial = q } → {table′ : List ℤ} {v : Verdict} → Judges (found (called d c) table lags list) table′ v → Judges (check h low high q table lags list) table′ v
-        unfolding check
-        check-judged e i o = rw (check, passes, sym ek ∙ not-false k z) (rw (e, i) at o)
+      pub check-judged : not c ≡ false → {table′ : List ℤ} {v : Judgement} → Judges (judged j list (read-all j list)) table′ v → Judges (check j list) table′ v
+      unfolding check
+      check-judged z o = rw (check, passes, sym ec ∙ not-false c z) o

@@ -1,130 +1,138 @@
 -- The reader's loop over the slips: where it stands, and that it goes as the definition reads.
 -- Assumes nothing.
-use mathlib.Core.Path.{_≡_, refl, sym, subst, _∙_}
+use mathlib.Core.Path.{_≡_, refl, sym, ap, subst, _∙_}
 use mathlib.Core.Bool.{Bool, true, false, cond}
 use mathlib.Core.List.{List}
-use Prim.Native.Nat.{ℕ, suc, _+_, _-_, _<_, _≤_}
+use Prim.Native.Nat.{ℕ, suc, _+_, _-_, _*_, _<_, _≤_}
 use native.Mathlib.Omega.{arith}
 use lib.IntN.{ℤ, pos, negsuc}
+use lib.ListN.{length}
 use lib.Signed.{_≤ℤ_}
-use Rattle.integers.specs.Range.{Within}
 use Rattle.integers.proofs.Linear.{ints}
-use Rattle.model.specs.Job.{End, t-min, t-max, h-min, h-max, Windows, windows, widest, Reservoir, Job, produces, consumes}
-use Rattle.model.specs.Questions.{pass, refuse}
-use Rattle.model.specs.Reader.{read-from}
-use Rattle.model.specs.Reader as model
-use Rattle.model.proofs.Standing.{Standing}
-use Rattle.model.proofs.Agree.{Agree}
+use Rattle.model.specs.Job.{End, t-min, t-max, h-min, h-max, Windows, windows, sent, widest, produces, consumes, Job as Call, events}
+use Rattle.model.specs.Standing.{Sane, Standing}
+use Rattle.model.specs.Slips.{slip-at}
+use Rattle.model.specs.Questions.{pass, refuse, _then_, ask}
+use Rattle.model.specs.Reader.{whole, read-from}
+use Rattle.model.proofs.Order.{inside-refl}
+use Rattle.model.proofs.Agree.{Agree, slip-questions-agree}
 use Rattle.model.proofs.Ranges.{end-range}
 use Rattle.model.proofs.Accepted.{passed, passed-standing}
-use Rattle.rules.proofs.Putting.{reserved}
 use Rattle.tables.specs.Board.{board, table-of, Whole as Full}
+use Rattle.tables.specs.Job.{Holds}
+use Rattle.tables.specs.declared.Job.{Job}
 use Rattle.tables.proofs.Board.{windows-board, length-table}
-use Rattle.levels.specs.Values.{span}
-use Rattle.rules.specs.Values.{job-of}
-use Rattle.judging.specs.Slip.{Ready}
-use Rattle.checker.specs.Turns.{Called, Turn, turn, Stepped}
+use Rattle.tables.proofs.Holding.{fit-of}
+use Rattle.judging.specs.Ready.{Ready}
+use Rattle.judging.specs.Wide.{opened}
+use Rattle.judging.proofs.Passing.{holds-of}
+use Rattle.checker.specs.Turns.{slip-asked, Stepped, board-call, Called}
 use Rattle.checker.specs.declared.Step.{Step}
 use Rattle.checker.specs.declared.Step.the-variants.{On, No}
-use Rattle.checker.proofs.Turning.{reads-off, reads-on, turn-agree}
+use Rattle.checker.proofs.Turning.{reads-off, reads-on}
 
--- The loop stands at slip i, word p: what is left to read from here is the whole reading.
-pub record At (h : ℤ) (lags list : List ℤ) (n stop count : ℕ) (c : Reservoir) (b₀ b : List ℤ) (i p last : ℕ) (conflict : Bool) : Type 0 where
+-- The loop over n events' windows stands at slip i, word p: what is left to read from here is the whole reading.
+pub record At (n : ℕ) (j : Call) (list : List ℤ) (stop count : ℕ) (b : List ℤ) (i p last : ℕ) (conflict : Bool) : Type 0 where
   pub some : i ≤ count
   pub before-stop : p ≤ stop
   pub last-in : last ≤ stop
   pub whole : Full b
-  pub standing : Standing (job-of h c n lags) (windows (table-of n b₀)) (windows (table-of n b))
-  pub same :
-      read-from (job-of h c n lags) (widest h (windows (table-of n b₀))) list stop (count - i) i p last conflict (table-of n b)
-      ≡ read-from (job-of h c n lags) (widest h (windows (table-of n b₀))) list stop count 0 0 0 false (table-of n b₀)
+  pub standing : Standing j (windows (table-of n b))
+  pub same : read-from j (widest j) list stop (count - i) i p last conflict (table-of n b) ≡ read-from j (widest j) list stop count 0 0 0 false (j .window-table)
 
-widest-same : (h : ℤ) (W X : Windows) (y : ℕ) (k : End) → W y h-max ≡ X y h-max → widest h W y k ≡ widest h X y k
-widest-same h W X y t-min e = refl
-widest-same h W X y t-max e = refl
-widest-same h W X y h-min e = rw e
-widest-same h W X y h-max e = rw e
+-- ---- the widest windows
 
-widest-range : (h : ℤ) (W : Windows) (y : ℕ) (k : End) → pos 0 ≤ℤ h → h ≤ℤ pos 20000 → Within (widest h W y k) (span k)
-widest-range h W y t-min a b = omega ints
-widest-range h W y t-max a b = omega ints
-widest-range h W y h-min a b = go (produces (W y h-max)) (consumes (W y h-max))
+widest-is : (j : Call) (W : Windows) (y : ℕ) (k : End) → W y h-max ≡ sent j y h-max → opened (j .horizon) W y k ≡ widest j y k
+widest-is j W y t-min e = refl
+widest-is j W y t-max e = refl
+widest-is j W y h-min e = rw e
+widest-is j W y h-max e = rw e
+
+-- They stand, too: so their ends are in range.
+widest-stands : {j : Call} → Sane j → Standing j (widest j)
+widest-stands {j} s = record { within = inside-refl (events j) (widest j); times = λ y l. s .horizon-low; heights = λ y l. go (produces (sent j y h-max)) (consumes (sent j y h-max)) }
   where
-    go : (p q : Bool) → Within (cond p (pos 1) (cond q (negsuc 9998) (pos 0))) 9999
-    go true q = omega ints
-    go false true = omega ints
-    go false false = omega ints
-widest-range h W y h-max a b = go (produces (W y h-max)) (consumes (W y h-max))
-  where
-    go : (p q : Bool) → Within (cond p (pos 9999) (cond q (negsuc 0) (pos 0))) 9999
+    go : (p q : Bool) → cond p (pos 1) (cond q (negsuc 9998) (pos 0)) ≤ℤ cond p (pos 9999) (cond q (negsuc 0) (pos 0))
     go true q = omega ints
     go false true = omega ints
     go false false = omega ints
 
-on-board : (n : ℕ) (b : List ℤ) → Agree n (board b) (windows (table-of n b))
-on-board n b y l k = sym (windows-board n b y k l)
+-- ---- the loop
 
-module _ (h : ℤ) (lags list : List ℤ) (n stop count : ℕ) (c : Reservoir) (wide b₀ : List ℤ) (call : Called h lags n c wide b₀) where
-  abbrev j : Job
-  j = job-of h c n lags
+module _ (k : Job) (ws wide b₀ list : List ℤ) (stop count : ℕ) (call : Called k ws wide b₀) where
+  abbrev n : ℕ
+  n = k .events
 
-  abbrev sent : Windows
-  sent = windows (table-of n b₀)
+  abbrev j : Call
+  j = board-call k ws b₀
 
-  opened : Agree n (board wide) (widest h sent)
-  opened y l k = call .opened .is y l k ∙ widest-same h (board b₀) sent y k (on-board n b₀ y l h-max)
+  pub holds : Holds k ws j
+  holds = holds-of ws (length-table n b₀)
 
-  pub begins : At h lags list n stop count c b₀ b₀ 0 0 0 false
+  on-board : (b : List ℤ) → Agree n (board b) (windows (table-of n b))
+  on-board b y l i = sym (windows-board n b y i l)
+
+  opened-wide : Agree n (board wide) (widest j)
+  opened-wide y l i = call .opened .is y l i ∙ widest-is j (board b₀) y i (on-board b₀ y l h-max)
+
+  -- The job's events are those on the board.
+  there : {y : ℕ} → y < n → y < events j
+  there l = rw (holds .events-are) l
+
+  pub begins : At n j list stop count b₀ 0 0 0 false
   begins =
-      let k : count - 0 ≡ count = omega arith in
-      record { some = omega arith; before-stop = omega arith; last-in = omega arith; whole = call .whole; standing = call .standing; same = rw k }
+      let i : count - 0 ≡ count = omega arith in
+      record { some = omega arith; before-stop = omega arith; last-in = omega arith; whole = call .whole; standing = call .standing; same = rw i }
 
-  module _ (b : List ℤ) (i p last : ℕ) (conflict : Bool) (here : At h lags list n stop count c b₀ b i p last conflict) where
-    pub ready : Ready lags n c wide b
+  module _ (b : List ℤ) (i p last : ℕ) (conflict : Bool) (here : At n j list stop count b i p last conflict) where
+    pub ready : Ready k ws wide b
     ready =
         let s = call .sane in
+        let f = fit-of holds s in
         record {
-          horizon = h;
-          sane = s;
-          limits = reserved s;
+          fit = f;
           whole = call .opened .whole;
-          wide-range = record { few = s .few-events; range = λ y l k. rw (opened y l k) (widest-range h sent y k (s .horizon-low) (s .horizon-high)) };
-          range = record { few = s .few-events; range = λ y l k. rw (on-board n b y l k) (end-range s (here .standing) y l k) };
-          inside = record { inside = λ y l k. rw (opened y l k, on-board n b y l k) (here .standing .within .inside y l k) };
+          wide-range = record { few = f .few-events; range = λ y l e. rw (opened-wide y l e) (end-range s (widest-stands s) y (there l) e) };
+          range = record { few = f .few-events; range = λ y l e. rw (on-board b y l e) (end-range s (here .standing) y (there l) e) };
+          inside = record { inside = λ y l e. rw (opened-wide y l e, on-board b y l e) (here .standing .within .inside y (there l) e) };
         }
 
-    same-turn : (left : ℕ) → turn j (board wide) (board b) list stop p left ≡ turn j (widest h sent) (windows (table-of n b)) list stop p left
-    same-turn left = turn-agree j (board wide) (widest h sent) (board b) (windows (table-of n b)) list stop p left opened (on-board n b) (call .sane)
+    same-asked : (left : ℕ) → slip-asked j (board wide) (board b) list stop p left ≡ slip-asked j (widest j) (windows (table-of n b)) list stop p left
+    same-asked left =
+        ap (λ c. ask 13 (whole list stop p) then c)
+        (slip-questions-agree j (board wide) (widest j) (board b) (windows (table-of n b)) (rw (holds .events-are) opened-wide) (rw (holds .events-are) (on-board b)) (call .sane) (slip-at list p) left)
 
     one-more : i < count → count - i ≡ suc (count - i - 1)
     one-more l = omega arith
 
-    pub refuses : (b′ : List ℤ) (q : ℕ) → i < count → Stepped n (turn j (board wide) (board b) list stop p (count - i - 1)) b b′ stop (No q) →
-        read-from j (widest h sent) list stop count 0 0 0 false (table-of n b₀) .check ≡ refuse q i
+    pub refuses : (b′ : List ℤ) (q : ℕ) → i < count → Stepped n j (board wide) list stop p (count - i - 1) b b′ (No q) →
+        read-from j (widest j) list stop count 0 0 0 false (j .window-table) .check ≡ refuse q i
     refuses b′ q l e =
-        rw (← here .same, one-more l) (reads-off j (widest h sent) list stop i p last conflict (table-of n b) (count - i - 1) q (sym (same-turn (count - i - 1)) ∙ e))
+        rw (← here .same, one-more l) (reads-off j (widest j) list stop i p last conflict (table-of n b) (count - i - 1) q (sym (same-asked (count - i - 1)) ∙ e))
 
-    pub goes-on : (b′ : List ℤ) (next : ℕ) (clash : Bool) → i < count → Stepped n (turn j (board wide) (board b) list stop p (count - i - 1)) b b′ stop (On next clash) →
-        At h lags list n stop count c b₀ b′ (i + 1) next p clash
+    pub goes-on : (b′ : List ℤ) (next : ℕ) (clash : Bool) → i < count → Stepped n j (board wide) list stop p (count - i - 1) b b′ (On next clash) →
+        At n j list stop count b′ (i + 1) next p clash
     goes-on b′ next clash l e =
         let left = count - i - 1 in
-        let r = reads-on j (widest h sent) list stop i p last conflict (table-of n b) left (e .0) next (sym (same-turn left) ∙ e .1) in
-        let k : count - (i + 1) ≡ left = omega arith in
-        let q = passed-standing j sent (widest h sent) (table-of n b) (e .0) left (length-table n b) (here .standing) (passed j (widest h sent) (windows (table-of n b)) (e .0) left (r .1)) in
+        let x = slip-at list p in
+        let r = reads-on j (widest j) list stop i p last conflict (table-of n b) left (sym (same-asked left) ∙ e .0) in
+        let m : count - (i + 1) ≡ left = omega arith in
+        let long : length (table-of n b) ≡ 4 * events j = length-table n b ∙ rw (holds .events-are) in
+        let q = passed-standing j (widest j) (table-of n b) x left long (here .standing) (passed j (widest j) (windows (table-of n b)) x left (r .1)) in
         record {
           some = omega arith;
           before-stop = e .5;
           last-in = here .before-stop;
           whole = e .4;
           standing = rw (e .3) q;
-          same = rw (k, e .3, e .2, ← r .0, ← one-more l) (here .same);
+          same = rw (m, e .3, e .2, e .1, ← r .0, ← one-more l) (here .same);
         }
 
     pub finishes : count ≤ i →
-        read-from j (widest h sent) list stop count 0 0 0 false (table-of n b₀)
+        read-from j (widest j) list stop count 0 0 0 false (j .window-table)
         ≡ record { check = pass; conflicting = conflict; table = table-of n b; after = p; last = last }
     unfolding read-from
-    finishes l = let k : count - i ≡ 0 = omega arith in sym (here .same) ∙ rw k
+    finishes l = let m : count - i ≡ 0 = omega arith in sym (here .same) ∙ rw m
 
-pub stepped-as : (n : ℕ) (t : Turn) (b b′ : List ℤ) (stop : ℕ) (r s : Step) → r ≡ s → Stepped n t b b′ stop r → Stepped n t b b′ stop s
-stepped-as n t b b′ stop r s e x = subst (Stepped n t b b′ stop) e x
+pub stepped-as : (n : ℕ) (j : Call) (wide : Windows) (list : List ℤ) (stop p left : ℕ) (b b′ : List ℤ) {r s : Step} → r ≡ s → Stepped n j wide list stop p left b b′ r → Stepped n j wide list stop p left b b′ s
+stepped-as n j wide list stop p left b b′ e x = subst (Stepped n j wide list stop p left b b′) e x

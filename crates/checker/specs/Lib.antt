@@ -1,2 +1,2 @@
 pub mod Turns
-pub mod Verdict
+pub mod Judgement

@@ -1,30 +1,30 @@
 // The slip reader: accepts or refuses any list of slips, whoever wrote it.
 pub mod turns; // turns.rt: all slips in turn, each narrowing made before the next
 
-use crate::turns::read_all;
+use crate::turns::read_slips;
 use judging::opened::widen;
 use questions::Check;
 use questions::Refusal;
 use questions::asked::questions;
+use slips::MARK;
+use slips::reading::trailer_of;
 use slips::words::index;
 use slips::words::not_negative;
-use slips::words::word_at;
 use slips::words::word_is;
-use tables::Height;
-use tables::Reservoir;
-use tables::Time;
-use tables::cage;
+use tables::Job;
+use tables::job_of;
 use tables::load;
 use tables::unload;
-ghost use mathlib.Core.Bool.{cond};
 ghost use mathlib.Core.Path.{_≡_};
-ghost use Prim.Native.Nat.{_*_, _<_, _≤_};
-ghost use Rattle.model.specs.Reader.{check};
+ghost use mathlib.Core.Bool.{cond};
+ghost use Prim.Native.Nat.{_*_, _/_, _<_, _≤_};
+ghost use lib.ListN.{length};
+ghost use Rattle.model.specs.Job.{job};
+ghost use Rattle.model.specs.Reader.{marked, ends-right, read-all, judged, check};
 ghost use Rattle.tables.specs.Board.{table-of};
-ghost use Rattle.rules.specs.Values.{job-of};
-ghost use Rattle.levels.specs.Values.{reservoir-of};
-ghost use Rattle.checker.specs.Turns.{Called};
-ghost use Rattle.checker.specs.Verdict.{trailed, closed-at, reply-of, accepting, left-by, closing-reply, called, Passing, Trailed, read-over, found, Judges};
+ghost use Rattle.judging.specs.Ready.{call-of};
+ghost use Rattle.checker.specs.Turns.{board-call, Called};
+ghost use Rattle.checker.specs.Judgement.{reply-of, accepting, left-by, closing-reply, Passing, Trailed, Judges};
 
 // One slip read and asked: the place after it and whether it is a conflict, or the number of a refusal.
 pub enum Step {
@@ -40,66 +40,62 @@ pub struct Tail {
 }
 
 // All slips read, or refused.
-pub enum Ended {
-    Done(Tail),
+pub enum SlipsRead {
+    All(Tail),
     Refused(Refusal),
 }
 
 // The reader's answer: open or conflict, or refused.
-pub enum Verdict {
+pub enum Judgement {
     Open,
     Conflict,
     Refused(Refusal),
 }
 
-// ---- the call
+// ---- the trailer
 
 // 12. Is the last word 4207 and the count not negative?
 fn is_marked(list: &[i32]) -> bool
     requires { do ⌜ 3 ≤ (← ⟦list.len()⟧) ⌝ }
-    ensures { λ b. ⌜ b ≡ trailed (now (list .entry)) ⌝ }
+    ensures { λ b. ⌜ b ≡ marked (now (list .entry)) ⌝ }
 {
-    let stop = list.len() - 3;
-    let mark = word_at(list, stop + 2);
-    if !word_is(mark, 4207) {
-        return false;
-    }
-    let count = word_at(list, stop);
-    not_negative(count)
+    let trailer = trailer_of(list);
+    let right = word_is(trailer.mark, MARK);
+    let counts = not_negative(trailer.slips);
+    right & counts
 }
 
 // 19. Do the slips end at the trailer, its second word where the last begins?
-fn ends_well(list: &[i32], t: Tail) -> bool
-    requires { do ⌜ (3 ≤ (← ⟦list.len()⟧)) × (t .last < 2147483648) ⌝ }
-    ensures { λ b. ⌜ b ≡ closed-at (now (list .entry)) (t .after) (t .last) ⌝ }
+fn ends_right(list: &[i32], tail: Tail) -> bool
+    requires { do ⌜ (3 ≤ (← ⟦list.len()⟧)) × (tail .last < 2147483648) ⌝ }
+    ensures { λ b. ⌜ b ≡ ends-right (now (list .entry)) (tail .after) (tail .last) ⌝ }
 {
+    let trailer = trailer_of(list);
     let stop = list.len() - 3;
-    let after = t.after;
-    if after != stop {
-        return false;
-    }
-    let place = word_at(list, stop + 1);
-    let last = t.last;
-    word_is(place, last)
+    let whole = tail.after == stop;
+    let begins = word_is(trailer.last, tail.last);
+    whole & begins
 }
 
-// The verdict on a list whose slips were all read: open or conflict, if it ends well.
-fn closing(list: &[i32], t: Tail) -> Verdict
-    requires { do ⌜ (3 ≤ (← ⟦list.len()⟧)) × (t .last < 2147483648) ⌝ }
-    ensures { λ v. ⌜ reply-of v ≡ closing-reply (now (list .entry)) t ⌝ }
+// The judgement on a list whose slips were all read: open or conflict, if it ends right.
+fn closing(list: &[i32], tail: Tail) -> Judgement
+    requires { do ⌜ (3 ≤ (← ⟦list.len()⟧)) × (tail .last < 2147483648) ⌝ }
+    ensures { λ v. ⌜ reply-of v ≡ closing-reply (now (list .entry)) tail ⌝ }
 {
-    if !ends_well(list, t) {
-        return Verdict::Refused(Refusal {
+    if !ends_right(list, tail) {
+        return Judgement::Refused(Refusal {
             number: 19,
             place: 0,
         });
     }
-    if t.conflict {
-        Verdict::Conflict
+    if tail.conflict {
+        Judgement::Conflict
     } else {
-        Verdict::Open
+        Judgement::Open
     }
 }
+
+// ---- the call
 
 // 13 to 19 over the board of the windows sent in. Accepted, the board holds the windows narrowed.
 fn judge_slips(
@@ -107,35 +103,35 @@ fn judge_slips(
     wide: &[i32; 256],
     list: &[i32],
     lags: &[i32],
-    n: usize,
-    horizon: Time,
-    c: Reservoir,
-) -> Verdict
-    requires { ⌜ Called (horizon .0) (now lags) n (reservoir-of c) (now wide) (now b) × Trailed (now list) ⌝ }
+    k: Job,
+) -> Judgement
+    requires { ⌜ Called k (now lags) (now wide) (now b) × Trailed (now list) ⌝ }
     ensures { λ v. ⌜
         Judges
-        (read-over (job-of (horizon .0) (reservoir-of c) n (now (lags .entry))) (table-of n (now (b .entry))) (now (list .entry)))
-        (left-by v (table-of n (now (b .exit))) (table-of n (now (b .entry))))
+        (judged (board-call k (now (lags .entry)) (now (b .entry))) (now (list .entry))
+        (read-all (board-call k (now (lags .entry)) (now (b .entry))) (now (list .entry))))
+        (left-by v (table-of (k .events) (now (b .exit))) (table-of (k .events) (now (b .entry))))
         v
         ⌝ }
 {
+    let trailer = trailer_of(list);
+    let count = index(trailer.slips);
     let stop = list.len() - 3;
-    let count = index(word_at(list, stop));
-    let ended = read_all(b, wide, list, lags, n, horizon, c, stop, count);
-    match ended {
-        Ended::Refused(r) => Verdict::Refused(r),
-        Ended::Done(t) => closing(list, t),
+    let read = read_slips(b, wide, list, lags, k, stop, count);
+    match read {
+        SlipsRead::Refused(r) => Judgement::Refused(r),
+        SlipsRead::All(tail) => closing(list, tail),
     }
 }
 
 // Is the list accepted?
-fn accepts(v: Verdict) -> bool
+fn accepts(v: Judgement) -> bool
     ensures { λ b. ⌜ b ≡ accepting v ⌝ }
 {
     match v {
-        Verdict::Refused(_) => false,
-        Verdict::Open => true,
-        Verdict::Conflict => true,
+        Judgement::Refused(_) => false,
+        Judgement::Open => true,
+        Judgement::Conflict => true,
     }
 }
 
@@ -150,19 +146,45 @@ fn leave(b: &[i32; 256], n: usize, table: &mut [i32], whole: bool)
 }
 
 // 13 to 19 of a call whose questions 1 to 12 passed. The windows are stored once, at the end, and only if the whole list is accepted.
-fn judge(horizon: Time, c: Reservoir, table: &mut [i32], lags: &[i32], list: &[i32]) -> Verdict
-    requires { ⌜ Passing (called (horizon .0) (reservoir-of c)) (now table) (now lags) (now list) ⌝ }
-    ensures { λ v. ⌜ Judges (found (called (horizon .0) (reservoir-of c)) (now (table .entry)) (now (lags .entry)) (now (list .entry))) (now (table .exit)) v ⌝ }
+fn judge(k: Job, table: &mut [i32], lags: &[i32], list: &[i32]) -> Judgement
+    requires { ⌜ Passing k (now lags) (now table) (now list) ⌝ }
+    ensures { λ v. ⌜
+        Judges
+        (judged (call-of k (now (lags .entry)) (now (table .entry))) (now (list .entry))
+        (read-all (call-of k (now (lags .entry)) (now (table .entry))) (now (list .entry))))
+        (now (table .exit))
+        v
+        ⌝ }
 {
-    let n = table.len() / 4;
+    let n = k.events;
     let mut b = [0i32; 256];
     load(table, n, &mut b);
     let mut wide = [0i32; 256];
-    widen(&b, n, horizon, &mut wide);
-    let v = judge_slips(&mut b, &wide, list, lags, n, horizon, c);
+    widen(&b, k, &mut wide);
+    let v = judge_slips(&mut b, &wide, list, lags, k);
     let whole = accepts(v);
     leave(&b, n, table, whole);
     v
+}
+
+// The whole call of the job that k holds.
+fn read_list(k: Job, table: &mut [i32], lags: &[i32], list: &[i32]) -> Judgement
+    requires { ⌜ k .events ≡ length (now table) / 4 ⌝ }
+    ensures { λ v. ⌜ Judges (check (call-of k (now (lags .entry)) (now (table .entry))) (now (list .entry))) (now (table .exit)) v ⌝ }
+{
+    let asked = questions(k, table, lags, list.len());
+    match asked {
+        Check::Refuse(r) => Judgement::Refused(r),
+        Check::Pass => {
+            if !is_marked(list) {
+                return Judgement::Refused(Refusal {
+                    number: 12,
+                    place: 0,
+                });
+            }
+            judge(k, table, lags, list)
+        }
+    }
 }
 
 // The slip reader: whatever words the list holds, it is accepted, the windows narrowed, or refused by number and place, no word changed.
@@ -175,21 +197,10 @@ pub fn check(
     table: &mut [i32],
     lags: &[i32],
     list: &[i32],
-) -> Verdict
-    ensures answer { λ v. ⌜ reply-of v ≡ check h low high q (now (table .entry)) (now (lags .entry)) (now (list .entry)) .reply ⌝ }
-    ensures windows { λ v. ⌜ now (table .exit) ≡ check h low high q (now (table .entry)) (now (lags .entry)) (now (list .entry)) .table ⌝ }
+) -> Judgement
+    ensures answer { λ v. ⌜ reply-of v ≡ check (job h low high q (now (table .entry)) (now (lags .entry))) (now (list .entry)) .reply ⌝ }
+    ensures windows { λ v. ⌜ now (table .exit) ≡ check (job h low high q (now (table .entry)) (now (lags .entry))) (now (list .entry)) .table ⌝ }
 {
-    let asked = questions(h, low, high, q, table, lags, list.len());
-    match asked {
-        Check::Refuse(r) => Verdict::Refused(r),
-        Check::Pass => {
-            if !is_marked(list) {
-                return Verdict::Refused(Refusal {
-                    number: 12,
-                    place: 0,
-                });
-            }
-            judge(Time(h), cage(low, high, q), table, lags, list)
-        }
-    }
+    let k = job_of(h, low, high, q, table.len() / 4);
+    read_list(k, table, lags, list)
 }

@@ -1,6 +1,5 @@
-pub mod Ends
+pub mod Storing
 pub mod Facts
 pub mod Named
-pub mod Widest
-pub mod Given
 pub mod Passing
+pub mod Widest

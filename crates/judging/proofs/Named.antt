@@ -1,54 +1,26 @@
 -- What a slip names: its rule's end, subject, target and kind.
 -- Assumes nothing.
 use mathlib.Core.Path.{_≡_, refl, sym, ap, _∙_}
-use mathlib.Core.Bool.{Bool, true, false, not, cond}
-use Prim.Native.Nat.{ℕ, zero, suc, _<_, _≤_}
+use mathlib.Core.Bool.{Bool, true, false, not, _&&_}
+use mathlib.Core.List.{List}
+use Prim.Native.Nat.{ℕ, zero, suc, _/_, _<_, _≤_}
 use native.Mathlib.Omega.{arith}
+use borrow.Author.Tests.{not-true, not-false}
 use lib.Dec.{T, eqb, ltb→lt, eqb·suc-zero}
 use lib.IntN.{ℤ, pos, negsuc, natAbs}
+use lib.ListN.{length}
 use lib.Signed.{leZ, ltZ}
-use Rattle.integers.proofs.Tests.{and-out}
-use borrow.Author.Tests.{not-true, not-false}
 use Rattle.integers.specs.Range.{eqZ}
-use Rattle.model.specs.Job.{Job, lags, lag-a, lag-b}
-use Rattle.model.specs.Rules.{Rule, reservoir, rule, own-end}
-use Rattle.model.specs.Slips.{Explanation, number}
+use Rattle.integers.proofs.Tests.{and-out}
+use Rattle.model.specs.Job.{Job as Call, lag-word}
+use Rattle.model.specs.Rules.{Rule, lag-upper, lag-lower, reservoir, rule, own-end, subjects, target-fits}
+use Rattle.model.specs.Slips.{Explanation, number, rule-of, subject-of, target-of}
 use Rattle.model.specs.Questions.{is-event}
-use Rattle.model.specs.Reader.{end, has-bound, kind-fits, subjects, target-fits, rule-of, subject-of, target-of, premises-fit, names}
-use Rattle.rules.specs.Values.{family-of}
+use Rattle.model.specs.Reader.{has-bound, kind-fits, premises-fit, names}
+use Rattle.tables.specs.Job.{Holds}
+use Rattle.tables.specs.declared.Job.{Job}
+use Rattle.rules.specs.Values.{family-of, subjects-of}
 use Rattle.rules.proofs.Giving.{variant-is}
-
--- The kind of a rule's end.
-abbrev pub Own : Rule → ℕ → Type 0
-Own ρ k = (k ≡ number (own-end ρ)) × (end k ≡ own-end ρ) × (1 ≤ k) × (k ≤ 4)
-
-pub own-upper : (r : ℕ) → r ≡ 1 → Own (rule r) 2
-own-upper r e = rw e (refl, refl, omega arith, omega arith)
-
-pub own-lower : (r : ℕ) → r ≡ 2 → Own (rule r) 1
-own-lower r e = rw e (refl, refl, omega arith, omega arith)
-
-time-end : (m s : Bool) (f : ℕ) → f < 2 → Own (reservoir m s (family-of f)) 1
-time-end true s zero l = (refl, refl, omega arith, omega arith)
-time-end false s zero l = (refl, refl, omega arith, omega arith)
-time-end true s (suc zero) l = (refl, refl, omega arith, omega arith)
-time-end false s (suc zero) l = (refl, refl, omega arith, omega arith)
-time-end m s (suc (suc f)) l = absurd (omega arith)
-
-pub own-time : {ρ : Rule} (m s : Bool) (f : ℕ) → reservoir m s (family-of f) ≡ ρ → f < 2 → Own ρ 1
-own-time m s f e l = rw (← e) (time-end m s f l)
-
-height-end : (m s : Bool) (f k : ℕ) → 2 ≤ f → cond m (k ≡ 4) (k ≡ 3) → Own (reservoir m s (family-of f)) k
-height-end m s zero k l h = absurd (omega arith)
-height-end m s (suc zero) k l h = absurd (omega arith)
-height-end true s (suc (suc f)) k l h = rw h (refl, refl, omega arith, omega arith)
-height-end false s (suc (suc f)) k l h = rw h (refl, refl, omega arith, omega arith)
-
-pub own-height : {ρ : Rule} (m s : Bool) (f : ℕ) → reservoir m s (family-of f) ≡ ρ → 2 ≤ f → m ≡ true → Own ρ 4
-own-height m s f e l h = rw (← e) (height-end m s f 4 l (rw h))
-
-pub own-low : {ρ : Rule} (m s : Bool) (f : ℕ) → reservoir m s (family-of f) ≡ ρ → 2 ≤ f → m ≡ false → Own ρ 3
-own-low m s f e l h = rw (← e) (height-end m s f 3 l (rw h))
 
 -- ---- kinds
 
@@ -73,72 +45,59 @@ module _ (ρ : Rule) (k v : ℤ) {t : Bool} (zero-kind : t ≡ eqZ k (pos 0)) wh
   pub kind-none : {b : Bool} → t ≡ false → b ≡ has-bound ρ → not b ≡ true → false ≡ kind-fits ρ k v
   kind-none {b} e f g = rw (sym zero-kind ∙ e, sym f ∙ not-true b g)
 
-  pub kind-own : {b r : Bool} {n : ℕ} → t ≡ false → b ≡ has-bound ρ → not b ≡ false → Own ρ n → r ≡ eqZ k (pos n) → r ≡ kind-fits ρ k v
-  kind-own {b} e f g o h = rw (sym zero-kind ∙ e, sym f ∙ not-false b g) (rw (o .0) at h)
+  pub kind-own : {b r : Bool} {n : ℕ} → t ≡ false → b ≡ has-bound ρ → not b ≡ false → n ≡ number (own-end ρ) → r ≡ eqZ k (pos n) → r ≡ kind-fits ρ k v
+  kind-own {b} e f g o h = rw (sym zero-kind ∙ e, sym f ∙ not-false b g) (rw o at h)
 
 -- ---- subjects and targets
 
-pub subject-lag : (r : ℕ) (j : Job) → 1 ≤ r → r < 3 → lags j ≡ subjects (rule r) j
-subject-lag zero j l h = absurd (omega arith)
-subject-lag (suc zero) j l h = refl
-subject-lag (suc (suc zero)) j l h = refl
-subject-lag (suc (suc (suc r))) j l h = absurd (omega arith)
+module _ {k : Job} {ws : List ℤ} {j : Call} (h : Holds k ws j) where
+  pub subjects-are : (ρ : Rule) → subjects ρ j ≡ subjects-of ρ k ws
+  subjects-are lag-upper = rw (h .lags-are)
+  subjects-are lag-lower = rw (h .lags-are)
+  subjects-are (reservoir m b f) = h .events-are
 
-pub subject-event : (r : ℕ) (j : Job) → 3 ≤ r → r ≤ 14 → j .events ≡ subjects (rule r) j
-subject-event r j l h = rw (← variant-is r l h)
+  pub target-upper : (r e y : ℕ) {a : ℕ} → r ≡ 1 → a ≡ natAbs (lag-word ws e 0) → eqb y a ≡ target-fits (rule r) j e y
+  target-upper r e y p q = rw (p, q, h .lags-are)
 
-pub target-upper : (r : ℕ) (j : Job) (e y : ℕ) {a : ℕ} → r ≡ 1 → a ≡ lag-a j e → eqb y a ≡ target-fits (rule r) j e y
-target-upper r j e y p q = rw (p, q)
+  pub target-lower : (r e y : ℕ) {a : ℕ} → r ≡ 2 → a ≡ natAbs (lag-word ws e 1) → eqb y a ≡ target-fits (rule r) j e y
+  target-lower r e y p q = rw (p, q, h .lags-are)
 
-pub target-lower : (r : ℕ) (j : Job) (e y : ℕ) {a : ℕ} → r ≡ 2 → a ≡ lag-b j e → eqb y a ≡ target-fits (rule r) j e y
-target-lower r j e y p q = rw (p, q)
+pub subject-lag : (r : ℕ) (k : Job) (ws : List ℤ) → 1 ≤ r → r < 3 → length ws / 3 ≡ subjects-of (rule r) k ws
+subject-lag zero k ws l h = absurd (omega arith)
+subject-lag (suc zero) k ws l h = refl
+subject-lag (suc (suc zero)) k ws l h = refl
+subject-lag (suc (suc (suc r))) k ws l h = absurd (omega arith)
 
-self-of : (m s : Bool) (f : ℕ) (j : Job) (e y : ℕ) → f < 2 → eqb y e ≡ target-fits (reservoir m s (family-of f)) j e y
+pub subject-event : (r : ℕ) (k : Job) (ws : List ℤ) → 3 ≤ r → r ≤ 14 → k .events ≡ subjects-of (rule r) k ws
+subject-event r k ws l h = rw (← variant-is r l h)
+
+self-of : (m s : Bool) (f : ℕ) (j : Call) (e y : ℕ) → f < 2 → eqb y e ≡ target-fits (reservoir m s (family-of f)) j e y
 self-of m s zero j e y l = refl
 self-of m s (suc zero) j e y l = refl
 self-of m s (suc (suc f)) j e y l = absurd (omega arith)
 
-any-of : (m s : Bool) (f : ℕ) (j : Job) (e y : ℕ) → 2 ≤ f → true ≡ target-fits (reservoir m s (family-of f)) j e y
+any-of : (m s : Bool) (f : ℕ) (j : Call) (e y : ℕ) → 2 ≤ f → true ≡ target-fits (reservoir m s (family-of f)) j e y
 any-of m s zero j e y l = absurd (omega arith)
 any-of m s (suc zero) j e y l = absurd (omega arith)
 any-of m s (suc (suc f)) j e y l = refl
 
-pub target-self : {ρ : Rule} (m s : Bool) (f : ℕ) (j : Job) (e y : ℕ) → reservoir m s (family-of f) ≡ ρ → f < 2 → eqb y e ≡ target-fits ρ j e y
+pub target-self : {ρ : Rule} (m s : Bool) (f : ℕ) (j : Call) (e y : ℕ) → reservoir m s (family-of f) ≡ ρ → f < 2 → eqb y e ≡ target-fits ρ j e y
 target-self m s f j e y p l = rw (← p) (self-of m s f j e y l)
 
-pub target-any : {ρ : Rule} (m s : Bool) (f : ℕ) (j : Job) (e y : ℕ) → reservoir m s (family-of f) ≡ ρ → 2 ≤ f → true ≡ target-fits ρ j e y
+pub target-any : {ρ : Rule} (m s : Bool) (f : ℕ) (j : Call) (e y : ℕ) → reservoir m s (family-of f) ≡ ρ → 2 ≤ f → true ≡ target-fits ρ j e y
 target-any m s f j e y p l = rw (← p) (any-of m s f j e y l)
 
--- ---- question 14, test by test
+-- ---- question 14
 
--- The two numbers that a slip's header names.
+-- A word that is the number of an event.
 pub event-is : (n : ℕ) (w : ℤ) → T (is-event n w) → (natAbs w < n) × T (leZ (pos 0) w)
 event-is n (pos w) t =
     let o = and-out (leZ (pos 0) (pos w)) (ltZ (pos w) (pos n)) t in
     (ltb→lt w n (o .1), o .0)
 event-is n (negsuc w) t = absurd t
 
-module _ (j : Job) (x : Explanation) {a : Bool} (ea : a ≡ is-event (subjects (rule-of x) j) (x .subject)) where
-  pub no-subject : not a ≡ true → false ≡ names j x
-  unfolding names
-  no-subject f = rw (sym ea ∙ not-true a f)
-
-  module _ (ta : not a ≡ false) {b : Bool} (eb : b ≡ is-event (j .events) (x .target)) where
-    pub no-target : not b ≡ true → false ≡ names j x
-    unfolding names
-    no-target f = rw (sym ea ∙ not-false a ta, sym eb ∙ not-true b f)
-
-    module _ (tb : not b ≡ false) {c : Bool} (ec : c ≡ premises-fit (j .events) (x .premises)) where
-      pub no-facts : not c ≡ true → false ≡ names j x
-      unfolding names
-      no-facts f = rw (sym ea ∙ not-false a ta, sym eb ∙ not-false b tb, sym ec ∙ not-true c f)
-
-      module _ (tc : not c ≡ false) {d : Bool} (ed : d ≡ target-fits (rule-of x) j (subject-of x) (target-of x)) where
-        pub no-fit : not d ≡ true → false ≡ names j x
-        unfolding names
-        no-fit f = rw (sym ea ∙ not-false a ta, sym eb ∙ not-false b tb, sym ec ∙ not-false c tc, sym ed ∙ not-true d f)
-
-        pub all-named : not d ≡ false → {r : Bool} → r ≡ kind-fits (rule-of x) (x .kind) (x .value) → r ≡ names j x
-        unfolding names
-        all-named td e =
-            rw (sym ea ∙ not-false a ta, sym eb ∙ not-false b tb, sym ec ∙ not-false c tc, sym ed ∙ not-false d td) e
+-- The five tests, of the code's job.
+pub names-is : {k : Job} {ws : List ℤ} {j : Call} → Holds k ws j → (x : Explanation) →
+    names j x ≡ (is-event (subjects-of (rule-of x) k ws) (x .subject) && is-event (k .events) (x .target) && premises-fit (k .events) (x .premises) && target-fits (rule-of x) j (subject-of x) (target-of x) && kind-fits (rule-of x) (x .kind) (x .value))
+unfolding names
+names-is {k} {ws} {j} h x = rw (subjects-are h (rule-of x), h .events-are)

@@ -1,2 +1,2 @@
 pub mod Wide
-pub mod Slip
+pub mod Ready

@@ -1,48 +1,26 @@
 // 14: what a slip names.
 use crate::premises::facts_fit;
-use rules::findings::variant;
 use rules::lags::lag_event;
+use rules::numbers::own_kind;
+use rules::numbers::variant;
 use slips::Slip;
-use slips::Word;
 use slips::words::index;
 use slips::words::is_event;
 use slips::words::word_is;
+use tables::Job;
+use tables::Word;
 ghost use mathlib.Core.Path.{_≡_};
-ghost use Prim.Native.Nat.{_/_, _≤_};
-ghost use lib.IntN.{ℤ};
+ghost use Prim.Native.Nat.{_<_, _≤_};
+ghost use Rattle.model.specs.Job.{Job as Call};
+ghost use Rattle.model.specs.Rules.{rule, target-fits};
 ghost use Rattle.model.specs.Questions.{is-event};
-ghost use Rattle.model.specs.Slips.{number};
-ghost use Rattle.model.specs.Job.{Reservoir as Cage};
-ghost use Rattle.model.specs.Rules.{rule, own-end};
-ghost use Rattle.model.specs.Reader.{end, has-bound, kind-fits, subjects, target-fits, names};
-ghost use Rattle.rules.specs.Values.{job-of, Lagged};
-ghost use Rattle.slips.specs.Reading.{explanation-of, Stands};
-ghost use Rattle.judging.specs.Slip.{Lags};
-
-// The kind of the end that rule r is about, 1..4.
-pub fn end_kind(r: usize) -> usize
-    requires { ⌜ (1 ≤ r) × (r ≤ 14) ⌝ }
-    ensures { λ k. ⌜ (k ≡ number (own-end (rule r))) × (end k ≡ own-end (rule r)) × (1 ≤ k) × (k ≤ 4) ⌝ }
-{
-    if r == 1 {
-        return 2;
-    }
-    if r == 2 {
-        return 1;
-    }
-    let v = variant(r);
-    let family = v.family;
-    if family < 2 {
-        return 1;
-    }
-    if v.mirror {
-        return 4;
-    }
-    3
-}
+ghost use Rattle.model.specs.Reader.{has-bound, kind-fits, names};
+ghost use Rattle.tables.specs.Job.{Holds, Fit};
+ghost use Rattle.rules.specs.Values.{subjects-of};
+ghost use Rattle.slips.specs.Slip.{explanation-of, Stands};
 
 // Does rule r give bounds? A level rule concludes conflict alone.
-pub fn gives_bound(r: usize) -> bool
+fn gives_bound(r: usize) -> bool
     requires { ⌜ (1 ≤ r) × (r ≤ 14) ⌝ }
     ensures { λ b. ⌜ b ≡ has-bound (rule r) ⌝ }
 {
@@ -55,7 +33,7 @@ pub fn gives_bound(r: usize) -> bool
 }
 
 // Is the kind the rule's own, or 0 with value 0?
-pub fn kind_right(r: usize, kind: Word, value: Word) -> bool
+fn kind_right(r: usize, kind: Word, value: Word) -> bool
     requires { ⌜ (1 ≤ r) × (r ≤ 14) ⌝ }
     ensures { λ b. ⌜ b ≡ kind-fits (rule r) (kind .0) (value .0) ⌝ }
 {
@@ -65,25 +43,25 @@ pub fn kind_right(r: usize, kind: Word, value: Word) -> bool
     if !gives_bound(r) {
         return false;
     }
-    word_is(kind, end_kind(r))
+    word_is(kind, own_kind(r))
 }
 
 // Is the subject a lag in rules 1 and 2, else an event?
-pub fn subject_there(lags: &[i32], n: usize, r: usize, subject: Word) -> bool
-    requires { do ⌜ (1 ≤ r) × (r ≤ 14) × (n ≤ 64) × ((← ⟦lags.len()⟧) / 3 ≤ 256) ⌝ }
-    ensures { λ b. ⌜ ((h : ℤ) (c : Cage) → b ≡ is-event (subjects (rule r) (job-of h c n (now (lags .entry)))) (subject .0)) ⌝ }
+fn subject_there(lags: &[i32], k: Job, r: usize, subject: Word) -> bool
+    requires { ⌜ (1 ≤ r) × (r ≤ 14) × Fit k (now lags) ⌝ }
+    ensures { λ b. ⌜ b ≡ is-event (subjects-of (rule r) k (now (lags .entry))) (subject .0) ⌝ }
 {
     if r < 3 {
         let g = lags.len() / 3;
         return is_event(subject, g);
     }
-    is_event(subject, n)
+    is_event(subject, k.events)
 }
 
 // Does the target fit the rule: a, b, or e; any event in 5, 8, 11, 14?
-pub fn target_right(lags: &[i32], n: usize, r: usize, e: usize, y: usize) -> bool
-    requires { ⌜ (1 ≤ r) × (r ≤ 14) × (r ≤ 2 → Lagged n (now lags) e) ⌝ }
-    ensures { λ b. ⌜ ((h : ℤ) (c : Cage) → b ≡ target-fits (rule r) (job-of h c n (now (lags .entry))) e y) ⌝ }
+fn target_right(lags: &[i32], k: Job, r: usize, e: usize, y: usize) -> bool
+    requires { ⌜ (1 ≤ r) × (r ≤ 14) × Fit k (now lags) × (e < subjects-of (rule r) k (now lags)) ⌝ }
+    ensures { λ b. ⌜ ((j : Call) → Holds k (now (lags .entry)) j → b ≡ target-fits (rule r) j e y) ⌝ }
 {
     if r == 1 {
         return y == lag_event(lags, e, 0);
@@ -100,30 +78,23 @@ pub fn target_right(lags: &[i32], n: usize, r: usize, e: usize, y: usize) -> boo
 }
 
 // 14. Do subject, target and fact events exist, are fact kinds 1..4, does the target fit the rule, and is the kind the rule's own, or 0 with value 0?
-pub fn names(list: &[i32], lags: &[i32], n: usize, s: Slip) -> bool
-    requires { ⌜ Lags n (now lags) × Stands (now list) s ⌝ }
-    ensures { λ b. ⌜ ((h : ℤ) (c : Cage) → b ≡ names (job-of h c n (now (lags .entry))) (explanation-of (now (list .entry)) s)) ⌝ }
+pub fn names(list: &[i32], lags: &[i32], k: Job, s: Slip) -> bool
+    requires { ⌜ Fit k (now lags) × Stands (now list) s ⌝ }
+    ensures { λ b. ⌜ ((j : Call) → Holds k (now (lags .entry)) j → b ≡ names j (explanation-of (now (list .entry)) s)) ⌝ }
 {
     let r = s.rule;
-    let subject = s.subject;
-    if !subject_there(lags, n, r, subject) {
+    let n = k.events;
+    if !subject_there(lags, k, r, s.subject) {
         return false;
     }
-    let target = s.target;
-    if !is_event(target, n) {
+    if !is_event(s.target, n) {
         return false;
     }
-    let p = s.facts;
-    let m = s.count;
-    if !facts_fit(list, n, p, m) {
+    if !facts_fit(list, s, n) {
         return false;
     }
-    let e = index(subject);
-    let y = index(target);
-    if !target_right(lags, n, r, e, y) {
+    if !target_right(lags, k, r, index(s.subject), index(s.target)) {
         return false;
     }
-    let kind = s.kind;
-    let value = s.value;
-    kind_right(r, kind, value)
+    kind_right(r, s.kind, s.value)
 }

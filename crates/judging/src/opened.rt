@@ -2,6 +2,7 @@
 use levels::places::consumes;
 use levels::places::produces;
 use tables::Height;
+use tables::Job;
 use tables::Time;
 use tables::h_max;
 use tables::set_h_max;
@@ -10,11 +11,12 @@ use tables::set_t_max;
 use tables::set_t_min;
 ghost use mathlib.Core.Path.{_≡_};
 ghost use Prim.Native.Nat.{_<_, _≤_};
+ghost use Rattle.model.specs.Job.{widest-h-min, widest-h-max};
 ghost use Rattle.tables.specs.Board.{board, Whole};
-ghost use Rattle.judging.specs.Wide.{widest-h-min, widest-h-max, Widened, Wide};
+ghost use Rattle.judging.specs.Wide.{Widened, Wide};
 
 // The widest amounts of an event's kind, of which h is an amount: 1..9,999, −9,999..−1 or 0.
-pub fn widest_h_min(h: Height) -> Height
+fn widest_h_min(h: Height) -> Height
     ensures { λ r. ⌜ r .0 ≡ widest-h-min (h .0) ⌝ }
 {
     if produces(h) {
@@ -26,7 +28,7 @@ pub fn widest_h_min(h: Height) -> Height
     Height(0)
 }
 
-pub fn widest_h_max(h: Height) -> Height
+fn widest_h_max(h: Height) -> Height
     ensures { λ r. ⌜ r .0 ≡ widest-h-max (h .0) ⌝ }
 {
     if produces(h) {
@@ -39,7 +41,7 @@ pub fn widest_h_max(h: Height) -> Height
 }
 
 // Event y on the wide board gets the widest windows of its kind on the board b.
-pub fn widen_event(b: &[i32; 256], horizon: Time, y: usize, wide: &mut [i32; 256])
+fn widen_event(b: &[i32; 256], horizon: Time, y: usize, wide: &mut [i32; 256])
     requires { ⌜ (y < 64) × Whole (now wide) ⌝ }
     ensures { λ r. ⌜ Widened (horizon .0) (board (now (b .entry))) y (now (wide .entry)) (now (wide .exit)) ⌝ }
 {
@@ -52,14 +54,15 @@ pub fn widen_event(b: &[i32; 256], horizon: Time, y: usize, wide: &mut [i32; 256
     set_h_max(wide, y, high);
 }
 
-// The wide board of n events.
-pub fn widen(b: &[i32; 256], n: usize, horizon: Time, wide: &mut [i32; 256])
-    requires { ⌜ (n ≤ 64) × Whole (now wide) ⌝ }
-    ensures { λ r. ⌜ Wide n (horizon .0) (board (now (b .entry))) (now (wide .exit)) ⌝ }
+// The widest windows of the job's events, whose kinds are those of the windows on the board b.
+pub fn widen(b: &[i32; 256], k: Job, wide: &mut [i32; 256])
+    requires { ⌜ (k .events ≤ 64) × Whole (now wide) ⌝ }
+    ensures { λ r. ⌜ Wide (k .events) (k .horizon .0) (board (now (b .entry))) (now (wide .exit)) ⌝ }
 {
+    let n = k.events;
     let mut y: usize = 0;
     while y < n {
-        widen_event(b, horizon, y, wide);
+        widen_event(b, k.horizon, y, wide);
         y += 1;
     }
 }

@@ -1,11 +1,12 @@
--- `checker::turns::take_slip` meets its contract.
--- Assumes nothing.
-use Rattle.model.specs.Reader.{premises-at}
-use Rattle.checker.proofs.Turning.{placed-of, turn-cut, turn-no, turn-on, passes, applies-is}
-use Rattle.slips.specs.Reading.{explanation-of}
-use Rattle.rules.specs.Values.{job-of}
-use Rattle.levels.specs.Values.{reservoir-of}
-use Rattle.tables.specs.Board.{board}
+-- `checker::turns::take_slip` reads the slip at p, asks it and makes its narrowing. Assumes nothing.
+use mathlib.Core.Path.{_∙_, ap}
+use Rattle.tables.specs.Board.{board, table-of}
+use Rattle.tables.proofs.Board.{length-table}
+use Rattle.model.specs.Reader.{is-conflict, applied}
+use Rattle.slips.specs.Slip.{explanation-of}
+use Rattle.judging.specs.Ready.{call-of}
+use Rattle.judging.proofs.Passing.{holds-of}
+use Rattle.checker.proofs.Turning.{stop-cut, stop-no, goes-by, slip-there, placed-of, passes, applies-is}
 use borrow.Author.Needs.{needs}
 use Rattle.checker.proofs.turns.take_slip.Statement.{statement}
 use Rattle.checker.proofs.turns.take_slip.Tie as tie
@@ -21,68 +22,39 @@ enum-told c = search needs
 
 returns : tie.Need-returns
 returns c =
-    let s = c .before .before .before in
-    let a = s .args in
-    λ sane. let h = a .horizon .0 in turn-cut (job-of h (reservoir-of (a .c)) (a .n) (a .lags .now)) (board (a .wide .now)) (board (a .b .now))
-    (a .list .now) (a .stop) (a .p) (a .left) (c .before .before .read-slip .result) (c .before .before .read-slip .ensures .0)
-    (c .enum-told .given .1)
+    let a = c .before .before .before .args in
+    λ j h. stop-cut j (board (a .wide .now)) (board (a .b .now)) (a .list .now) (a .stop) (a .p) (a .left) (c .before .before .read-slip .result) (c .before .before .read-slip .ensures .0) (c .enum-told .given .1)
 
 slip-questions-requires : tie.Need-slip-questions-requires
 slip-questions-requires c κs =
-    let s = c .before .before .before .before .before in
-    let a = s .args in (
-      s .pre .0,
-      placed-of (a .list .now) (a .stop) (c .before .before .before .before .read-slip .result) (c .before .before .read .given .0 .0)
-          (c .before .before .read .given .0 .1 .0) (c .before .before .before .before .read-slip .ensures .1) (c .before .before .read .given .1) .0,
-    )
+    let a = c .before .before .before .before .before .args in
+    (c .before .before .before .before .before .pre .0, placed-of (a .list .now) (a .stop) (c .before .before .before .before .read-slip .result) (c .before .before .read .given .0 .0) (c .before .before .read .given .0 .1 .0) (c .before .before .before .before .read-slip .ensures .1) (c .before .before .read .given .1) .0)
 
 returns-2 : tie.Need-returns-2
 returns-2 c =
-    let s = c .before .before .before .before .before .before .before in
-    let a = s .args in
-    λ sane. let h = a .horizon .0 in turn-no (job-of h (reservoir-of (a .c)) (a .n) (a .lags .now)) (board (a .wide .now)) (board (a .b .now))
-    (a .list .now) (a .stop) (a .p) (a .left) (c .before .before .before .before .before .before .read-slip .result)
-    (c .before .before .before .before .before .before .read-slip .ensures .0) (c .before .before .before .before .read .given .0 .0)
-    (c .before .before .before .before .read .given .0 .1 .0) (c .before .before .before .before .read .given .1) (c .before .slip-questions .result)
-    (c .if1 .taken) (c .before .slip-questions .ensures h sane)
+    let a = c .before .before .before .before .before .before .before .args in
+    λ j h. stop-no j (board (a .wide .now)) (board (a .b .now)) (a .list .now) (a .stop) (a .p) (a .left) (c .before .before .before .before .before .before .read-slip .result) (c .before .before .before .before .before .before .read-slip .ensures .0) (c .before .before .before .before .read .given .0 .0) (c .before .before .before .before .read .given .0 .1 .0) (c .before .before .before .before .read .given .1) (c .before .slip-questions .result) (c .if1 .taken) (c .before .slip-questions .ensures j h)
 
 apply-requires : tie.Need-apply-requires
 apply-requires c κs =
-    let s = c .before .before .before .before .before .before .before .before in
-    let a = s .args in
-    let q = s .pre .0 in
-    let h = q .horizon in (
-      applies-is (job-of h (reservoir-of (a .c)) (a .n) (a .lags .now)) (board (a .wide .now)) (board (a .b .now)) (a .list .now)
-          (c .before .before .before .before .before .read .given .0 .0) (a .left) (q .range .few)
-          (placed-of (a .list .now) (a .stop) (c .before .before .before .before .before .before .before .read-slip .result)
-          (c .before .before .before .before .before .read .given .0 .0) (c .before .before .before .before .before .read .given .0 .1 .0)
-          (c .before .before .before .before .before .before .before .read-slip .ensures .1) (c .before .before .before .before .before .read .given .1) .0)
-          (passes (c .before .if1 .left) (c .before .before .slip-questions .ensures h (q .sane))),
-      s .pre .1,
-    )
+    let a = c .before .before .before .before .before .before .before .before .args in
+    let k = a .k in
+    let j = call-of k (a .lags .now) (table-of (k .events) (a .b .now)) in
+    let h = holds-of (a .lags .now) (length-table (k .events) (a .b .now)) in
+    (applies-is h (c .before .before .before .before .before .before .before .before .pre .0 .fit) (board (a .wide .now)) (board (a .b .now)) (a .list .now) (c .before .before .before .before .before .read .given .0 .0) (a .left) (placed-of (a .list .now) (a .stop) (c .before .before .before .before .before .before .before .read-slip .result) (c .before .before .before .before .before .read .given .0 .0) (c .before .before .before .before .before .read .given .0 .1 .0) (c .before .before .before .before .before .before .before .read-slip .ensures .1) (c .before .before .before .before .before .read .given .1) .0) (passes (c .before .if1 .left) (c .before .before .slip-questions .ensures j h)), c .before .before .before .before .before .before .before .before .pre .1)
 
 returns-3 : tie.Need-returns-3
 returns-3 c =
-    let s = c .before .before .before .before .before .before .before .before .before in
-    let a = s .args in
-    λ sane. let h = a .horizon .0 in let k = c .apply .ensures
-    (premises-at (a .list .now) (c .before .before .before .before .before .before .read .given .0 .0 .facts)
-    (c .before .before .before .before .before .before .read .given .0 .0 .count))
-    in (
-      explanation-of (a .list .now) (c .before .before .before .before .before .before .read .given .0 .0),
-      turn-on (job-of h (reservoir-of (a .c)) (a .n) (a .lags .now)) (board (a .wide .now)) (board (a .b .now)) (a .list .now) (a .stop) (a .p)
-          (a .left) (c .before .before .before .before .before .before .before .before .read-slip .result)
-          (c .before .before .before .before .before .before .before .before .read-slip .ensures .0)
-          (c .before .before .before .before .before .before .read .given .0 .0) (c .before .before .before .before .before .before .read .given .0 .1 .0)
-          (c .before .before .before .before .before .before .read .given .1) (c .before .before .before .slip-questions .result)
-          (c .before .before .if1 .left) (c .before .before .before .slip-questions .ensures h sane),
-      k .0,
-      k .2,
-      k .1,
-      placed-of (a .list .now) (a .stop) (c .before .before .before .before .before .before .before .before .read-slip .result)
-          (c .before .before .before .before .before .before .read .given .0 .0) (c .before .before .before .before .before .before .read .given .0 .1 .0)
-          (c .before .before .before .before .before .before .before .before .read-slip .ensures .1)
-          (c .before .before .before .before .before .before .read .given .1) .1,
+    let a = c .before .before .before .before .before .before .before .before .before .args in
+    let x = explanation-of (a .list .now) (c .before .before .before .before .before .before .read .given .0 .0) in
+    let e = c .apply .ensures (x .premises) in
+    λ j h. let t = slip-there j (board (a .wide .now)) (board (a .b .now)) (a .list .now) (a .stop) (a .p) (a .left) (c .before .before .before .before .before .before .before .before .read-slip .result) (c .before .before .before .before .before .before .before .before .read-slip .ensures .0) (c .before .before .before .before .before .before .read .given .0 .0) (c .before .before .before .before .before .before .read .given .0 .1 .0) (c .before .before .before .before .before .before .read .given .1) in (
+      goes-by j (board (a .wide .now)) (board (a .b .now)) (a .list .now) (a .stop) (a .p) (a .left) (c .before .before .before .before .before .before .before .before .read-slip .result) (c .before .before .before .before .before .before .before .before .read-slip .ensures .0) (c .before .before .before .before .before .before .read .given .0 .0) (c .before .before .before .before .before .before .read .given .0 .1 .0) (c .before .before .before .before .before .before .read .given .1) (c .before .before .before .slip-questions .result) (c .before .before .if1 .left) (c .before .before .before .slip-questions .ensures j h),
+      t .2,
+      e .0 ∙ ap is-conflict (t .1),
+      e .2 ∙ ap (applied (table-of (a .k .events) (a .b .now))) (t .1),
+      e .1,
+      placed-of (a .list .now) (a .stop) (c .before .before .before .before .before .before .before .before .read-slip .result) (c .before .before .before .before .before .before .read .given .0 .0) (c .before .before .before .before .before .before .read .given .0 .1 .0) (c .before .before .before .before .before .before .before .before .read-slip .ensures .1) (c .before .before .before .before .before .before .read .given .1) .1,
     )
 
 pub take-slip-spec : {M : Type 1} → statement M

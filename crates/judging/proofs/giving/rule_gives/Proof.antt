@@ -1,9 +1,6 @@
--- `judging::giving::rule_gives` meets its contract.
--- Assumes nothing.
-use Rattle.judging.proofs.Given.{conflict-given, bound-given}
-use Rattle.rules.specs.Values.{job-of}
-use Rattle.levels.specs.Values.{reservoir-of}
-use Rattle.tables.specs.Board.{board}
+-- `judging::giving::rule_gives` is question 16 on windows at hand. Assumes nothing.
+use mathlib.Core.Path.{sym, _∙_}
+use Rattle.model.specs.Reader.{gives}
 use borrow.Author.Needs.{needs}
 use Rattle.judging.proofs.giving.rule_gives.Statement.{statement}
 use Rattle.judging.proofs.giving.rule_gives.Tie as tie
@@ -17,27 +14,19 @@ word-is-requires c κs = search needs
 finding-effect-requires : tie.Need-finding-effect-requires
 finding-effect-requires c κs = search needs
 
-fails-requires : tie.Need-fails-requires
-fails-requires c κs = search needs
+has-failed-requires : tie.Need-has-failed-requires
+has-failed-requires c κs = search needs
 
 returns : tie.Need-returns
-returns c =
-    let s = c .before .before .before .before .before .before in
-    let a = s .args in
-    λ h fs. conflict-given (job-of h (reservoir-of (a .c)) (a .n) (a .lags .now)) (board (a .x .now)) (a .s) fs (s .pre .1) (s .pre .2)
-    (c .before .before .before .before .before .finding .ensures h) (c .before .before .before .word-is .ensures) (c .before .before .if1 .taken)
-    (c .before .finding-effect .ensures .is) (c .fails .ensures)
+unfolding gives
+returns c = let p = c .before .before .before .before .before .pre in λ j h fs. c .has-failed .ensures ∙ rw (c .before .finding-effect .ensures, c .before .before .before .before .finding .ensures j h, p .subject, p .target, sym (c .before .before .before .word-is .ensures) ∙ c .before .before .if1 .taken)
 
 as-strict-requires : tie.Need-as-strict-requires
 as-strict-requires c κs = search needs
 
 returns-2 : tie.Need-returns-2
-returns-2 c =
-    let s = c .before .before .before .before .before .before in
-    let a = s .args in
-    λ h fs. bound-given (job-of h (reservoir-of (a .c)) (a .n) (a .lags .now)) (board (a .x .now)) (a .s) fs (s .pre .1) (s .pre .2)
-    (c .before .before .before .before .before .finding .ensures h) (c .before .before .before .word-is .ensures) (c .before .before .if1 .left)
-    (c .as-strict .ensures)
+unfolding gives
+returns-2 c = let p = c .before .before .before .before .pre in λ j h fs. c .as-strict .ensures ∙ rw (c .before .before .before .finding .ensures j h, p .subject, p .target, sym (c .before .before .word-is .ensures) ∙ c .before .if1 .left)
 
 pub rule-gives-spec : {M : Type 1} → statement M
 rule-gives-spec =
@@ -46,7 +35,7 @@ rule-gives-spec =
     finding-requires
     word-is-requires
     finding-effect-requires
-    fails-requires
+    has-failed-requires
     returns
     as-strict-requires
     returns-2)

@@ -10,13 +10,13 @@ use Rattle.judging.proofs.opened.widen.Statement.{statement}
 use Rattle.judging.proofs.opened.widen.Tie as tie
 
 abbrev Inv-loop : tie.InvT-loop
-Inv-loop b n horizon wide₀ y₀ wide y = (y ≤ n) × Wide y (horizon .0) (board b) wide
+Inv-loop b k wide₀ n y₀ wide y = (y ≤ n) × Wide y (k .horizon .0) (board b) wide
 
 abbrev μ-loop : tie.MeasureT-loop
-μ-loop b n horizon wide₀ y₀ wide y = n - y
+μ-loop b k wide₀ n y₀ wide y = n - y
 
 loop-holds : tie.Need-loop-holds Inv-loop μ-loop
-loop-holds c = let a = c .args in (omega arith, wide-none (a .horizon .0) (board (a .b .now)) (a .wide .now) (c .pre .1))
+loop-holds c = let a = c .args in (omega arith, wide-none (a .k .horizon .0) (board (a .b .now)) (a .wide .now) (c .pre .1))
 
 widen-event-requires : tie.Need-widen-event-requires Inv-loop μ-loop
 widen-event-requires c κs = (omega arith, c .before .before .loop .inv .1 .whole)
@@ -32,12 +32,12 @@ loop-again c =
     let s = c .before .before .before .before in
     let a = s .args in (
       omega arith,
-      wide-more (c .before .before .before .loop .y) (a .horizon .0) (board (a .b .now)) (c .before .before .before .loop .wide)
+      wide-more (c .before .before .before .loop .y) (a .k .horizon .0) (board (a .b .now)) (c .before .before .before .loop .wide)
           (c .widen-event .last .1 .1 .1 .0) (omega arith) (c .before .before .before .loop .inv .1) (c .widen-event .ensures),
     )
 
 returns : tie.Need-returns Inv-loop μ-loop
-returns c = let a = c .before .before .args in let e : c .before .loop .y ≡ a .n = omega arith in rw (← e) (c .before .loop .inv .1)
+returns c = let a = c .before .before .args in let e : c .before .loop .y ≡ a .k .events = omega arith in rw (← e) (c .before .loop .inv .1)
 
 pub widen-spec : {M : Type 1} → statement M
 widen-spec =

@@ -1,8 +1,6 @@
--- `judging::opened::widen_event` meets its contract.
--- Assumes nothing.
-use Rattle.judging.proofs.Widest.{widened}
+-- `judging::opened::widen_event` sets the event's four ends. Assumes nothing.
 use Rattle.tables.specs.Board.{board}
-use native.Mathlib.Omega.{arith}
+use Rattle.judging.proofs.Widest.{widened}
 use borrow.Author.Needs.{needs}
 use Rattle.judging.proofs.opened.widen_event.Statement.{statement}
 use Rattle.judging.proofs.opened.widen_event.Tie as tie
@@ -30,15 +28,9 @@ set-h-max-requires c κs = search needs
 
 returns : tie.Need-returns
 returns c =
-    let s = c .before .before .before .before .before .before .before .before .before .before .before in
-    let a = s .args in
-    widened (a .horizon .0) (board (a .b .now)) (a .y) (a .wide .now) (s .pre .1) (omega arith)
-    (rw (c .before .before .before .before .before .before .before .before .before .before .h-max .ensures) at
-    (c .before .before .before .before .before .before .before .before .before .widest-h-min .ensures))
-    (rw (c .before .before .before .before .before .before .before .before .before .before .h-max .ensures) at
-    (c .before .before .before .before .before .before .before .before .widest-h-max .ensures))
-    (c .before .before .before .before .before .before .set-t-min .ensures) (c .before .before .before .before .set-t-max .ensures)
-    (c .before .before .set-h-min .ensures) (c .set-h-max .ensures)
+    let a = c .before .before .before .before .before .before .before .before .before .before .before .args in
+    widened (a .horizon .0) (board (a .b .now)) (a .y) (a .wide .now) (c .before .before .before .before .before .before .before .before .before .before .before .pre .1) (c .before .before .before .before .before .before .before .before .before .before .before .pre .0) (rw (c .before .before .before .before .before .before .before .before .before .before .h-max .ensures) at (c .before .before .before .before .before .before .before .before .before .widest-h-min .ensures)) (rw (c .before .before .before .before .before .before .before .before .before .before .h-max .ensures) at (c .before .before .before .before .before .before .before .before .widest-h-max .ensures))
+    (c .before .before .before .before .before .before .set-t-min .ensures) (c .before .before .before .before .set-t-max .ensures) (c .before .before .set-h-min .ensures) (c .set-h-max .ensures)
 
 pub widen-event-spec : {M : Type 1} → statement M
 widen-event-spec =

@@ -1,5 +1,4 @@
--- `judging::opened::widest_h_max` meets its contract.
--- Assumes nothing.
+-- `judging::opened::widest_h_max` goes by the event's kind. Assumes nothing.
 use mathlib.Core.Path.{sym, _∙_}
 use borrow.Author.Needs.{needs}
 use Rattle.judging.proofs.opened.widest_h_max.Statement.{statement}
