@@ -8,7 +8,7 @@ use print::line;
 use print::planned;
 use print::say;
 use print::windows;
-use text::Scan;
+use scanner::Scan;
 ghost use Prim.Native.Nat.{_+_, _≤_};
 ghost use lib.ListN.{length};
 
@@ -58,7 +58,7 @@ fn call(numbers: &[i32; 1030], table: &mut [i32], lags: &[i32], list: &mut [i32]
             list,
         );
         let answer = checked.answer;
-        let verdict = checked.verdict;
+        let judgement = checked.judgement;
         let length = planned(answer);
         windows(table);
         if length <= list.len() {
@@ -66,10 +66,10 @@ fn call(numbers: &[i32; 1030], table: &mut [i32], lags: &[i32], list: &mut [i32]
             line(b"kept", &list[length..]);
         }
         say(b"read ");
-        judged(verdict);
+        judged(judgement);
         return;
     }
-    let verdict = checker::check(
+    let judgement = checker::check(
         numbers[1],
         numbers[2],
         numbers[3],
@@ -78,7 +78,7 @@ fn call(numbers: &[i32; 1030], table: &mut [i32], lags: &[i32], list: &mut [i32]
         lags,
         list,
     );
-    judged(verdict);
+    judged(judgement);
     windows(table);
     line(b"list", list);
 }
@@ -129,7 +129,7 @@ fn case(name: &[u8], words: &[u8]) {
     say(name);
     say(b"\n");
     let mut numbers = [0i32; 1030];
-    let scan = text::feed(text::start(), words, &mut numbers);
+    let scan = scanner::feed(scanner::start(), words, &mut numbers);
     let Scan::Between(n) = scan else {
         say(b"not a case\n");
         return;

@@ -1,5 +1,5 @@
 // What the program prints: an answer's line, the windows by event, a list's words.
-use checker::Verdict;
+use checker::Judgement;
 use propagator::Answer;
 use propagator::Counts;
 use questions::Refusal;
@@ -88,10 +88,10 @@ pub fn planned(answer: Answer) -> usize {
 }
 
 // The reader's answer.
-pub fn judged(verdict: Verdict) {
-    match verdict {
-        Verdict::Open => say(b"open\n"),
-        Verdict::Conflict => say(b"conflict\n"),
-        Verdict::Refused(r) => refused(r),
+pub fn judged(judgement: Judgement) {
+    match judgement {
+        Judgement::Open => say(b"open\n"),
+        Judgement::Conflict => say(b"conflict\n"),
+        Judgement::Refused(r) => refused(r),
     }
 }

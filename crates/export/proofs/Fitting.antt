@@ -3,7 +3,7 @@
 use mathlib.Core.Path.{_≡_, refl}
 use mathlib.Core.Bool.{Bool, true, false, cond, _&&_}
 use mathlib.Core.List.{List}
-use Prim.Native.Nat.{ℕ, zero, suc, _+_, _%_, _≤_}
+use Prim.Native.Nat.{ℕ, zero, suc, _+_, _/_, _%_, _≤_}
 use native.Mathlib.Omega.{arith}
 use lib.Dec.{eqb, leb, leb→le}
 use lib.IntN.{ℤ, pos, natAbs}
@@ -11,13 +11,13 @@ use lib.ListN.{length}
 use lib.Signed.{leZ}
 use Rattle.integers.specs.Range.{eqZ}
 use Rattle.integers.proofs.Tests.{true-is, and-out}
-use Rattle.model.specs.Job.{Windows, windows, widest, Job, job, lags}
-use Rattle.model.specs.Rules.{own-end, bound, effect}
-use Rattle.model.specs.Slips.{Explanation, slip-length}
+use Rattle.model.specs.Job.{Windows, windows, widest, Reservoir, Job, events}
+use Rattle.model.specs.Rules.{own-end, bound, effect, is-narrowing}
+use Rattle.model.specs.Slips.{Explanation, slip-length, premise-count, slip-at, rule-of, target-of}
 use Rattle.model.specs.Rounds.{Verdict, settled, conflict, stopped, still-open}
-use Rattle.model.specs.Questions.{Check, pass, refuse, _then_, ask, each, in-range, times-right, heights-right, lag-events, lag-differs, lag-in-range, limit-in-range, questions}
+use Rattle.model.specs.Questions.{Check, pass, refuse, _then_, ask, each, horizon-right, limits-right, stock-right, events-whole, times-right, heights-right, lags-whole, lag-events, lag-differs, lag-in-range, room-right, cage-questions, window-questions, lag-questions, own-questions, questions}
 use Rattle.model.specs.Planner.{refused, done, Outcome, plan}
-use Rattle.model.specs.Reader.{at, premise-count, whole, slip-at, reading, rule-of, target-of, names, all-true, narrowed, is-conflict, gives, is-narrowing, slip-questions, applied, Read, read-from, stop-of, counted, marked, ends-right, read-all, accepted, judged, check}
+use Rattle.model.specs.Reader.{whole, reading, names, all-true, narrowed, is-conflict, gives, slip-questions, applied, Read, read-from, stop-of, counted, marked, ends-right, read-all, accepted, judged, check}
 use Rattle.model.proofs.Questions.{then-out, ask-out, asked}
 use Rattle.model.proofs.Reading.{slip-ends}
 use Rattle.model.proofs.Rounds.{slips-room}
@@ -50,15 +50,6 @@ each-low q ok i (suc k) h l = go (ok i) (each-low q ok (i + 1) k h (omega arith)
 
 -- ---- questions 1 to 11
 
-row-low : (b1 b2 b3 b4 b7 b11 : Bool) (ok5 ok6 ok8 ok9 ok10 : ℕ → Bool) (n m : ℕ) → (ask 4 b4 ≡ pass → 0 + n ≤ 1000000) → (ask 7 b7 ≡ pass → 0 + m ≤ 1000000)
-    → Low (ask 1 b1 then ask 2 b2 then ask 3 b3 then ask 4 b4 then each 5 ok5 0 n then each 6 ok6 0 n then ask 7 b7 then each 8 ok8 0 m then each 9 ok9 0 m then each 10 ok10 0 m then ask 11 b11)
-row-low b1 b2 b3 b4 b7 b11 ok5 ok6 ok8 ok9 ok10 n m few-events few-lags =
-    then-low (ask 1 b1) _ (ask-low 1 b1 (omega arith)) (λ _. then-low (ask 2 b2) _ (ask-low 2 b2 (omega arith)) (λ _. then-low (ask 3 b3) _ (ask-low 3 b3 (omega arith))
-    (λ _. then-low (ask 4 b4) _ (ask-low 4 b4 (omega arith)) (λ p. then-low (each 5 ok5 0 n) _ (each-low 5 ok5 0 n (omega arith) (few-events p))
-    (λ _. then-low (each 6 ok6 0 n) _ (each-low 6 ok6 0 n (omega arith) (few-events p)) (λ _. then-low (ask 7 b7) _ (ask-low 7 b7 (omega arith))
-    (λ q. then-low (each 8 ok8 0 m) _ (each-low 8 ok8 0 m (omega arith) (few-lags q)) (λ _. then-low (each 9 ok9 0 m) _ (each-low 9 ok9 0 m (omega arith) (few-lags q))
-    (λ _. then-low (each 10 ok10 0 m) _ (each-low 10 ok10 0 m (omega arith) (few-lags q)) (λ _. ask-low 11 b11 (omega arith)))))))))))
-
 -- Questions 14 to 18 of a slip.
 slip-low : (named true-facts given clashing last moved : Bool) → Low (ask 14 named then ask 15 true-facts then ask 16 given then cond clashing (ask 18 last) (ask 17 moved))
 slip-low named true-facts given clashing last moved =
@@ -76,22 +67,38 @@ few q m k whole-entries l e =
     let u = leb→le m k (t .1) in
     omega arith
 
-module _ (h low high q : ℤ) (table lag-words : List ℤ) where
-  abbrev j : Job
-  j = job h low high q table lag-words
+-- Questions 1 to 11, part by part.
+cage-low : (h : ℤ) (c : Reservoir) → Low (cage-questions h c)
+cage-low h c =
+    then-low (ask 1 (horizon-right h)) _ (ask-low 1 (horizon-right h) (omega arith)) (λ _. then-low (ask 2 (limits-right c)) _ (ask-low 2 (limits-right c) (omega arith)) (λ _. ask-low 3 (stock-right c) (omega arith)))
 
-  questions-low : (room : ℕ) → Low (questions j table room)
-  unfolding questions
+window-low : (h : ℤ) (table : List ℤ) → Low (window-questions h table)
+window-low h table =
+    then-low (ask 4 (events-whole table)) _ (ask-low 4 (events-whole table) (omega arith))
+    (λ p. then-low (each 5 (times-right h (windows table)) 0 (length table / 4)) _ (each-low 5 (times-right h (windows table)) 0 (length table / 4) (omega arith) (events p))
+    (λ _. each-low 6 (heights-right (windows table)) 0 (length table / 4) (omega arith) (events p)))
+  where
+    events : ask 4 (events-whole table) ≡ pass → 0 + length table / 4 ≤ 1000000
+    events e = let k = few 4 (length table) 256 (eqb (length table % 4) 0) (omega arith) e in omega arith
+
+lag-low : (n : ℕ) (ws : List ℤ) → Low (lag-questions n ws)
+lag-low n ws =
+    then-low (ask 7 (lags-whole ws)) _ (ask-low 7 (lags-whole ws) (omega arith))
+    (λ p. then-low (each 8 (lag-events n ws) 0 (length ws / 3)) _ (each-low 8 (lag-events n ws) 0 (length ws / 3) (omega arith) (ties p))
+    (λ _. then-low (each 9 (lag-differs ws) 0 (length ws / 3)) _ (each-low 9 (lag-differs ws) 0 (length ws / 3) (omega arith) (ties p))
+    (λ _. each-low 10 (lag-in-range ws) 0 (length ws / 3) (omega arith) (ties p))))
+  where
+    ties : ask 7 (lags-whole ws) ≡ pass → 0 + length ws / 3 ≤ 1000000
+    ties e = let k = few 7 (length ws) 768 (eqb (length ws % 3) 0) (omega arith) e in omega arith
+
+module _ (j : Job) where
+  questions-low : (room : ℕ) → Low (questions j room)
+  unfolding questions own-questions
   questions-low room =
-      row-low (in-range (pos 0) (pos 20000) h) (limit-in-range low && limit-in-range high && limit-in-range q) (leZ low q && leZ q high)
-      (eqb (length table % 4) 0 && leb (length table) 256) (eqb (length lag-words % 3) 0 && leb (length lag-words) 768) (leb 3 room && leb room 1000000)
-      (times-right h (windows table)) (heights-right (windows table)) (lag-events j) (lag-differs j) (lag-in-range j) (j .events) (lags j) events ties
-    where
-      events : ask 4 (eqb (length table % 4) 0 && leb (length table) 256) ≡ pass → 0 + j .events ≤ 1000000
-      events e = let k = few 4 (length table) 256 (eqb (length table % 4) 0) (omega arith) e in omega arith
-
-      ties : ask 7 (eqb (length lag-words % 3) 0 && leb (length lag-words) 768) ≡ pass → 0 + lags j ≤ 1000000
-      ties e = let k = few 7 (length lag-words) 768 (eqb (length lag-words % 3) 0) (omega arith) e in omega arith
+      then-low (own-questions j) (ask 11 (room-right room))
+      (then-low (cage-questions (j .horizon) (j .reservoir)) _ (cage-low (j .horizon) (j .reservoir))
+      (λ _. then-low (window-questions (j .horizon) (j .window-table)) _ (window-low (j .horizon) (j .window-table)) (λ _. lag-low (events j) (j .lag-table))))
+      (λ _. ask-low 11 (room-right room) (omega arith))
 
   -- ---- the planner
 
@@ -109,19 +116,19 @@ module _ (h low high q : ℤ) (table lag-words : List ℤ) where
   done-small v slips rounds len l m n =
       record { number = omega arith; place = omega arith; outcome = outcome-low v; slips = l; rounds = m; length = n }
 
-  pub plan-small : (buffer : List ℤ) → Small (numbers-of (plan h low high q table lag-words buffer .reply))
-  plan-small buffer = go (questions j table (length buffer)) refl
+  pub plan-small : (buffer : List ℤ) → Small (numbers-of (plan j buffer .reply))
+  plan-small buffer = go (questions j (length buffer)) refl
     where
-      go : (c : Check) → questions j table (length buffer) ≡ c → Small (numbers-of (plan h low high q table lag-words buffer .reply))
-      go (refuse number place) e = rw (plan-refused h low high q table lag-words buffer number place e) (refused-small number place (rw e at (questions-low (length buffer))))
+      go : (c : Check) → questions j (length buffer) ≡ c → Small (numbers-of (plan j buffer .reply))
+      go (refuse number place) e = rw (plan-refused j buffer number place e) (refused-small number place (rw e at (questions-low (length buffer))))
       go pass e =
-          let r = run-in h low high q table lag-words buffer in
-          let f = run-finished h low high q table lag-words buffer e in
-          let a = asked h low high q table lag-words (length buffer) e .room-high in
-          let k = slips-room (length buffer) j table (r .state) (f .kept) in
+          let r = run-in j buffer in
+          let f = run-finished j buffer e in
+          let a = asked j (length buffer) e .room-high in
+          let k = slips-room (length buffer) j (r .state) (f .kept) in
           let t = f .kept .trailer-fits in
           let m = f .counted in
-          rw (plan-planned h low high q table lag-words buffer e) (done-small (r .verdict) (r .state .slips) (r .rounds) (length (r .state .log) + 3) (omega arith) (omega arith) (omega arith))
+          rw (plan-planned j buffer e) (done-small (r .verdict) (r .state .slips) (r .rounds) (length (r .state .log) + 3) (omega arith) (omega arith) (omega arith))
 
   -- ---- the reader
 
@@ -150,25 +157,25 @@ module _ (h low high q : ℤ) (table lag-words : List ℤ) where
             placed (refuses _ _ n o) = refuses number i n (omega arith)
         go false e a f s rec = rw (e, read-from) (refuses 13 i (omega arith) (omega arith))
 
-  all-low : (list : List ℤ) → length list ≤ 1000000 → Low (read-all j table list .check)
+  all-low : (list : List ℤ) → length list ≤ 1000000 → Low (read-all j list .check)
   unfolding read-all
-  all-low list l = read-low (widest h (windows table)) list (stop-of list) (omega arith) (natAbs (counted list)) 0 0 0 false table (omega arith) (omega arith)
+  all-low list l = read-low (widest j) list (stop-of list) (omega arith) (natAbs (counted list)) 0 0 0 false (j .window-table) (omega arith) (omega arith)
 
-  pub check-small : (list : List ℤ) → Small (numbers-of (check h low high q table lag-words list .reply))
-  check-small list = go (questions j table (length list) then marked list) refl
+  pub check-small : (list : List ℤ) → Small (numbers-of (check j list .reply))
+  check-small list = go (questions j (length list) then ask 12 (marked list)) refl
     where
-      both : Low (questions j table (length list) then marked list)
-      both = then-low (questions j table (length list)) (marked list) (questions-low (length list)) (λ _. ask-low 12 (eqZ (at list (stop-of list + 2)) (pos 4207) && leZ (pos 0) (counted list)) (omega arith))
+      both : Low (questions j (length list) then ask 12 (marked list))
+      both = then-low (questions j (length list)) (ask 12 (marked list)) (questions-low (length list)) (λ _. ask-low 12 (marked list) (omega arith))
 
-      verdict : (r : Read) → Low (r .check) → Small (numbers-of (judged table list r .reply))
-      verdict r l = ends (r .check then ends-right list r) (then-low (r .check) (ends-right list r) l (λ _. ask-low 19 (eqb (r .after) (stop-of list) && eqZ (at list (stop-of list + 1)) (pos (r .last))) (omega arith)))
+      verdict : (r : Read) → Low (r .check) → Small (numbers-of (judged j list r .reply))
+      verdict r l = ends (r .check then ask 19 (ends-right list (r .after) (r .last))) (then-low (r .check) _ l (λ _. ask-low 19 (ends-right list (r .after) (r .last)) (omega arith)))
         where
-          ends : (c : Check) → Low c → Small (numbers-of ((elim c as (λ _. Outcome) [ refuse n i ↦ record { reply = refused n i; table = table; buffer = list } | pass ↦ record { reply = done (accepted (r .conflicting)) 0 0 0; table = r .table; buffer = list } ]) .reply))
+          ends : (c : Check) → Low c → Small (numbers-of ((elim c as (λ _. Outcome) [ refuse n i ↦ record { reply = refused n i; table = j .window-table; buffer = list } | pass ↦ record { reply = done (accepted (r .conflicting)) 0 0 0; table = r .table; buffer = list } ]) .reply))
           ends pass l = done-small (accepted (r .conflicting)) 0 0 0 (omega arith) (omega arith) (omega arith)
           ends (refuse number place) l = refused-small number place l
 
-      go : (c : Check) → (questions j table (length list) then marked list) ≡ c → Small (numbers-of (check h low high q table lag-words list .reply))
-      go (refuse number place) e = rw (check-refused h low high q table lag-words list number place e) (refused-small number place (rw e at both))
+      go : (c : Check) → (questions j (length list) then ask 12 (marked list)) ≡ c → Small (numbers-of (check j list .reply))
+      go (refuse number place) e = rw (check-refused j list number place e) (refused-small number place (rw e at both))
       go pass e =
-          let d = then-out (questions j table (length list)) (marked list) e .0 in
-          rw (check-judged h low high q table lag-words list e) (verdict (read-all j table list) (all-low list (asked h low high q table lag-words (length list) d .room-high)))
+          let d = then-out (questions j (length list)) (ask 12 (marked list)) e .0 in
+          rw (check-judged j list e) (verdict (read-all j list) (all-low list (asked j (length list) d .room-high)))

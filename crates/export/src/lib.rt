@@ -2,17 +2,18 @@
 // Each call returns its refusal number or 0, and writes five words: place or 0, outcome (settled 0, conflict 1, stopped 2, open 3), slips,
 // rounds, length. The last three are 0 from the reader; all but the place are 0 when refused.
 // A caller in another language lends whole tables, and those that are written apart from all others: no contract can ask it.
-use checker::Verdict;
+use checker::Judgement;
 use checker::check;
 use propagator::Answer;
 use propagator::Counts;
 use propagator::plans::plan;
 ghost use mathlib.Core.Path.{_≡_};
 ghost use lib.IntN.{pos};
+ghost use Rattle.model.specs.Job.{job};
 ghost use Rattle.model.specs.Planner.{plan};
 ghost use Rattle.model.specs.Reader.{check};
 ghost use Rattle.propagator.specs.Plans.{reply-of as answer-reply};
-ghost use Rattle.checker.specs.Verdict.{reply-of as verdict-reply};
+ghost use Rattle.checker.specs.Judgement.{reply-of as judgement-reply};
 ghost use Rattle.export.specs.Words.{numbers-of, taken, told, Small};
 
 // An answer in plain numbers: the refusal's number or 0, and the five words.
@@ -65,8 +66,8 @@ fn planned(a: Answer) -> Numbers
 }
 
 // The reader's answer: no counts.
-fn judged(v: Verdict) -> Numbers
-    ensures { λ n. ⌜ n ≡ numbers-of (verdict-reply v) ⌝ }
+fn judged(v: Judgement) -> Numbers
+    ensures { λ n. ⌜ n ≡ numbers-of (judgement-reply v) ⌝ }
 {
     let none = Counts {
         slips: 0,
@@ -74,9 +75,9 @@ fn judged(v: Verdict) -> Numbers
         length: 0,
     };
     match v {
-        Verdict::Open => done(3, none),
-        Verdict::Conflict => done(1, none),
-        Verdict::Refused(r) => refused(r.number, r.place),
+        Judgement::Open => done(3, none),
+        Judgement::Conflict => done(1, none),
+        Judgement::Refused(r) => refused(r.number, r.place),
     }
 }
 
@@ -110,10 +111,10 @@ pub extern "C" fn orthmuzi_plan(
     buffer: &mut [i32],
     words: &mut [i32],
 ) -> i32
-    ensures number { λ r. ⌜ r ≡ pos (numbers-of (plan h low high q (now (table .entry)) (now (lags .entry)) (now (buffer .entry)) .reply) .number) ⌝ }
-    ensures answer { λ r. ⌜ now (words .exit) ≡ told (numbers-of (plan h low high q (now (table .entry)) (now (lags .entry)) (now (buffer .entry)) .reply)) (now (words .entry)) ⌝ }
-    ensures windows { λ r. ⌜ now (table .exit) ≡ plan h low high q (now (table .entry)) (now (lags .entry)) (now (buffer .entry)) .table ⌝ }
-    ensures slips { λ r. ⌜ now (buffer .exit) ≡ plan h low high q (now (table .entry)) (now (lags .entry)) (now (buffer .entry)) .buffer ⌝ }
+    ensures number { λ r. ⌜ r ≡ pos (numbers-of (plan (job h low high q (now (table .entry)) (now (lags .entry))) (now (buffer .entry)) .reply) .number) ⌝ }
+    ensures answer { λ r. ⌜ now (words .exit) ≡ told (numbers-of (plan (job h low high q (now (table .entry)) (now (lags .entry))) (now (buffer .entry)) .reply)) (now (words .entry)) ⌝ }
+    ensures windows { λ r. ⌜ now (table .exit) ≡ plan (job h low high q (now (table .entry)) (now (lags .entry))) (now (buffer .entry)) .table ⌝ }
+    ensures slips { λ r. ⌜ now (buffer .exit) ≡ plan (job h low high q (now (table .entry)) (now (lags .entry))) (now (buffer .entry)) .buffer ⌝ }
 {
     let a = plan(h, low, high, q, table, lags, buffer);
     tell(planned(a), words)
@@ -132,9 +133,9 @@ pub extern "C" fn orthmuzi_read(
     list: &[i32],
     words: &mut [i32],
 ) -> i32
-    ensures number { λ r. ⌜ r ≡ pos (numbers-of (check h low high q (now (table .entry)) (now (lags .entry)) (now (list .entry)) .reply) .number) ⌝ }
-    ensures answer { λ r. ⌜ now (words .exit) ≡ told (numbers-of (check h low high q (now (table .entry)) (now (lags .entry)) (now (list .entry)) .reply)) (now (words .entry)) ⌝ }
-    ensures windows { λ r. ⌜ now (table .exit) ≡ check h low high q (now (table .entry)) (now (lags .entry)) (now (list .entry)) .table ⌝ }
+    ensures number { λ r. ⌜ r ≡ pos (numbers-of (check (job h low high q (now (table .entry)) (now (lags .entry))) (now (list .entry)) .reply) .number) ⌝ }
+    ensures answer { λ r. ⌜ now (words .exit) ≡ told (numbers-of (check (job h low high q (now (table .entry)) (now (lags .entry))) (now (list .entry)) .reply)) (now (words .entry)) ⌝ }
+    ensures windows { λ r. ⌜ now (table .exit) ≡ check (job h low high q (now (table .entry)) (now (lags .entry))) (now (list .entry)) .table ⌝ }
 {
     let v = check(h, low, high, q, table, lags, list);
     tell(judged(v), words)

@@ -6,30 +6,24 @@ use Prim.Native.Nat.{ℕ, _≤_}
 use native.Mathlib.Omega.{arith}
 use lib.IntN.{ℤ}
 use lib.ListN.{length, take}
+use Rattle.model.specs.Job.{Job}
 use Rattle.model.specs.Rounds.{Verdict, settled, conflict, stopped}
 use Rattle.model.specs.Planner.{refused, done, plan}
 use Rattle.model.specs.Reader.{check}
 use Rattle.model.proofs.Questions.{asked}
 use Rattle.model.proofs.Refusals.{plan-passed, plan-lengths}
-use Rattle.model.proofs.Demand.{echoed, Demand3}
+use Rattle.model.specs.Demand.{echoed, Demand3}
 use Rattle.model.proofs.DemandProof.{demand3, planner-keeps, planner-clash}
 use Rattle.propagator.specs.Plans.{reply-of as answer-of}
-use Rattle.checker.specs.Verdict.{reply-of as verdict-of}
+use Rattle.checker.specs.Judgement.{reply-of as judgement-of}
 use Rattle.propagator.specs.declared.Answer.{Answer}
 use Rattle.propagator.specs.declared.Answer.the-variants.{Settled, Conflict, Stopped, Refused}
 use Rattle.questions.specs.declared.Refusal.{Refusal}
-use Rattle.reservoir.specs.Assured.{written-of, Copied, Unread, Taken, Assured}
+use Rattle.reservoir.specs.Assured.{written-of, Taken, Assured}
 use Rattle.reservoir.specs.declared.Checked.{Checked}
 use Rattle.reservoir.specs.declared.Written.{Written}
 use Rattle.reservoir.specs.declared.Written.the-variants.{Listed, Nothing}
-use Rattle.checker.specs.declared.Verdict.{Verdict as Said}
-use Rattle.checker.specs.declared.Verdict.the-variants.{Refused as Unsaid}
-
-pub unread-nothing : {w : Written} {r : Refusal} (a : Answer) → w ≡ Nothing r → Unread w (record { answer = a; verdict = Unsaid r })
-unread-nothing a e = rw e refl
-
-pub unread-listed : {w : Written} {n : ℕ} (a : Answer) (s : Said) → w ≡ Listed n → Unread w (record { answer = a; verdict = s })
-unread-listed a s e = rw e tt
+use Rattle.checker.specs.declared.Judgement.{Judgement as Said}
 
 -- What the list's length says of the answer.
 pub record Listing (a : Answer) (len : ℕ) : Type 0 where
@@ -59,12 +53,12 @@ refusing (Refused k) r e = let f : k ≡ r = cc in ap (λ x. refused (x .number)
 not-both : {A : Type 0} (v : Verdict) (a b c n p : ℕ) → done v a b c ≡ refused n p → A
 not-both v a b c n p e = absurd (let z : _≡_ {A = ℕ} 0 1 = cc in omega arith)
 
-module _ (h low high q : ℤ) (table lags buffer : List ℤ) (a : Answer) {table′ buffer′ : List ℤ}
-    (ea : answer-of a ≡ plan h low high q table lags buffer .reply) (et : table′ ≡ plan h low high q table lags buffer .table) (eb : buffer′ ≡ plan h low high q table lags buffer .buffer) where
-  abbrev theorem : Demand3 h low high q table lags
-  theorem = demand3 h low high q table lags
+module _ (j : Job) (buffer : List ℤ) (a : Answer) {table′ buffer′ : List ℤ}
+    (ea : answer-of a ≡ plan j buffer .reply) (et : table′ ≡ plan j buffer .table) (eb : buffer′ ≡ plan j buffer .buffer) where
+  abbrev theorem : Demand3 j
+  theorem = demand3 j
 
-  pub assured-unread : (r : Refusal) → written-of a ≡ Nothing r → (c : Checked) → c .answer ≡ a → verdict-of (c .verdict) ≡ refused (r .number) (r .place) → Assured h low high q table lags buffer table′ buffer′ c
+  pub assured-unread : (r : Refusal) → written-of a ≡ Nothing r → (c : Checked) → c .answer ≡ a → judgement-of (c .judgement) ≡ refused (r .number) (r .place) → Assured j buffer table′ buffer′ c
   assured-unread r w c f g =
       let i = refusing a r w in
       let u = theorem .planner-refuses buffer (r .number) (r .place) (sym ea ∙ i) in
@@ -80,12 +74,12 @@ module _ (h low high q : ℤ) (table lags buffer : List ℤ) (a : Answer) {table
     l : Listing a len
     l = listing a len w
 
-    e : plan h low high q table lags buffer .reply ≡ done (l .verdict) (l .slips) (l .rounds) len
+    e : plan j buffer .reply ≡ done (l .verdict) (l .slips) (l .rounds) len
     e = sym ea ∙ l .is
 
-    pub few : length table ≤ 256
+    pub few : length (j .window-table) ≤ 256
     few =
-        let k = asked h low high q table lags (length buffer) (plan-passed h low high q table lags buffer (l .verdict) (l .slips) (l .rounds) len e) in
+        let k = asked j (length buffer) (plan-passed j buffer (l .verdict) (l .slips) (l .rounds) len e) in
         let m = k .sane .few-events in
         let n = k .whole-events in
         omega arith
@@ -93,12 +87,12 @@ module _ (h low high q : ℤ) (table lags buffer : List ℤ) (a : Answer) {table
     pub fits : len ≤ length buffer′
     fits =
         let k = theorem .complete buffer (l .verdict) (l .slips) (l .rounds) len e .fits in
-        let m = plan-lengths h low high q table lags buffer .1 in
+        let m = plan-lengths j buffer .1 in
         let n = ap length eb in
         omega arith
 
-    pub assured-read : (copy : List ℤ) → Copied table copy → (v′ : Said) → verdict-of v′ ≡ check h low high q (take (length table) copy) lags (take len buffer′) .reply → Assured h low high q table lags buffer table′ buffer′ (record { answer = a; verdict = v′ })
-    assured-read copy c v′ g =
+    pub assured-read : (v′ : Said) → judgement-of v′ ≡ check j (take len buffer′) .reply → Assured j buffer table′ buffer′ (record { answer = a; judgement = v′ })
+    assured-read v′ g =
         record {
           answer = ea;
           windows-left = et;
@@ -107,17 +101,18 @@ module _ (h low high q : ℤ) (table lags buffer : List ℤ) (a : Answer) {table
           taken = λ v s m n k. go v s m n (sym e ∙ sym ea ∙ k);
         }
       where
-        go : (v : Verdict) (s m n : ℕ) → done (l .verdict) (l .slips) (l .rounds) len ≡ done v s m n → Taken h low high q table lags table′ buffer′ v n (record { answer = a; verdict = v′ })
+        go : (v : Verdict) (s m n : ℕ) → done (l .verdict) (l .slips) (l .rounds) len ≡ done v s m n → Taken j table′ buffer′ v n (record { answer = a; judgement = v′ })
         go v s m n k =
             let x : l .verdict ≡ v = cc in
             let y : len ≡ n = cc in
-            let d : plan h low high q table lags buffer .reply ≡ done v s m n = e ∙ k in
+            let d : plan j buffer .reply ≡ done v s m n = e ∙ k in
             let r = theorem .complete buffer v s m n d in
-            let i : take len buffer′ ≡ take n (plan h low high q table lags buffer .buffer) = rw (eb, y) in
-            let reply : verdict-of v′ ≡ done (echoed v) 0 0 0 = g ∙ rw (c .first few, i) (r .reply) in
+            let i : take len buffer′ ≡ take n (plan j buffer .buffer) = rw (eb, y) in
+            let reply : judgement-of v′ ≡ done (echoed v) 0 0 0 = g ∙ rw i (r .reply) in
             record {
               read = reply;
-              means = rw eb (theorem .sound (take n (plan h low high q table lags buffer .buffer)) (echoed v) 0 0 0 (r .reply));
-              keeps = rw et (planner-keeps h low high q table lags buffer v s m n d);
-              none = planner-clash h low high q table lags buffer v s m n d;
+              left = rw (eb, et) (r .same-table);
+              means = rw eb (theorem .sound (take n (plan j buffer .buffer)) (echoed v) 0 0 0 (r .reply));
+              keeps = rw et (planner-keeps j buffer v s m n d);
+              none = planner-clash j buffer v s m n d;
             }

@@ -1,15 +1,16 @@
 -- What planner and reader together assure of a call, in the customer's terms.
 use mathlib.Core.Path.{_≡_}
 use mathlib.Core.List.{List}
-use Prim.Native.Nat.{ℕ, _/_, _≤_}
+use Prim.Native.Nat.{ℕ, _≤_}
 use lib.IntN.{ℤ}
 use lib.ListN.{length, take}
-use Rattle.model.specs.Job.{windows, Schedule, value, Inside}
+use Rattle.model.specs.Job.{windows, Schedule, value, Inside, Job, events}
 use Rattle.model.specs.Rounds.{conflict, Verdict}
 use Rattle.model.specs.Planner.{refused, done, plan}
-use Rattle.model.proofs.Demand.{echoed, LegalPlan, Acceptance}
+use Rattle.model.specs.Reader.{check}
+use Rattle.model.specs.Demand.{echoed, LegalPlan, Acceptance}
 use Rattle.propagator.specs.Plans.{reply-of as answer-of}
-use Rattle.checker.specs.Verdict.{reply-of as verdict-of}
+use Rattle.checker.specs.Judgement.{reply-of as judgement-of}
 use Rattle.propagator.specs.declared.Answer.{Answer}
 use Rattle.propagator.specs.declared.Answer.the-variants.{Settled, Conflict, Stopped, Refused}
 use Rattle.reservoir.specs.declared.Checked.{Checked}
@@ -23,32 +24,29 @@ written-of (Conflict c) = Listed (c .length)
 written-of (Stopped c) = Listed (c .length)
 written-of (Refused r) = Nothing r
 
--- A call with no list to read: the verdict is the planner's refusal.
-abbrev pub Unread : Written → Checked → Type 0
-Unread (Nothing r) c = verdict-of (c .verdict) ≡ refused (r .number) (r .place)
-Unread (Listed len) c = Unit {0}
-
 -- The first words of a copy are the table's, where it has room for them.
 pub record Copied (table copy : List ℤ) : Type 0 where
   pub whole : length copy ≡ 256
   pub first : length table ≤ 256 → take (length table) copy ≡ table
 
 -- A call of the planner that was taken, with v for its verdict and len words written.
-pub record Taken (h low high q : ℤ) (table lags table′ buffer′ : List ℤ) (v : Verdict) (len : ℕ) (r : Checked) : Type 0 where
+pub record Taken (j : Job) (table′ buffer′ : List ℤ) (v : Verdict) (len : ℕ) (r : Checked) : Type 0 where
   -- The reader accepts the list as written, from the windows as first sent in, and says conflict exactly when the planner did.
-  pub read : verdict-of (r .verdict) ≡ done (echoed v) 0 0 0
-  -- What acceptance means, of every plan and every slip: `Acceptance` of the theory's Demand.
-  pub means : Acceptance h low high q table lags (take len buffer′) (echoed v)
+  pub read : judgement-of (r .judgement) ≡ done (echoed v) 0 0 0
+  -- It leaves every word of the window table as the planner left it.
+  pub left : check j (take len buffer′) .table ≡ table′
+  -- What acceptance means, of every plan and every slip: `Acceptance` of Demand.
+  pub means : Acceptance j (take len buffer′) (echoed v)
   -- Every legal plan of the windows sent in lies inside the windows left; after a conflict there is none.
-  pub keeps : (p : Schedule) → LegalPlan h low high q table lags p → Inside (length table / 4) (windows table′) (value p)
-  pub none : v ≡ conflict → (p : Schedule) → LegalPlan h low high q table lags p → ⊥
+  pub keeps : (p : Schedule) → LegalPlan j p → Inside (events j) (windows table′) (value p)
+  pub none : v ≡ conflict → (p : Schedule) → LegalPlan j p → ⊥
 
--- Demands 1 to 3 of one call: table and buffer at entry, then at exit.
-pub record Assured (h low high q : ℤ) (table lags buffer table′ buffer′ : List ℤ) (r : Checked) : Type 0 where
+-- Demands 1 to 3 of one call: its job, the buffer at entry, then table and buffer at exit.
+pub record Assured (j : Job) (buffer table′ buffer′ : List ℤ) (r : Checked) : Type 0 where
   -- Answer, windows and slips are those of document 01.
-  pub answer : answer-of (r .answer) ≡ plan h low high q table lags buffer .reply
-  pub windows-left : table′ ≡ plan h low high q table lags buffer .table
-  pub slips-left : buffer′ ≡ plan h low high q table lags buffer .buffer
+  pub answer : answer-of (r .answer) ≡ plan j buffer .reply
+  pub windows-left : table′ ≡ plan j buffer .table
+  pub slips-left : buffer′ ≡ plan j buffer .buffer
   -- A refused call changes no lent word.
-  pub untouched : (number place : ℕ) → answer-of (r .answer) ≡ refused number place → (table′ ≡ table) × (buffer′ ≡ buffer) × (verdict-of (r .verdict) ≡ refused number place)
-  pub taken : (v : Verdict) (slips rounds len : ℕ) → answer-of (r .answer) ≡ done v slips rounds len → Taken h low high q table lags table′ buffer′ v len r
+  pub untouched : (number place : ℕ) → answer-of (r .answer) ≡ refused number place → (table′ ≡ j .window-table) × (buffer′ ≡ buffer) × (judgement-of (r .judgement) ≡ refused number place)
+  pub taken : (v : Verdict) (slips rounds len : ℕ) → answer-of (r .answer) ≡ done v slips rounds len → Taken j table′ buffer′ v len r

@@ -2,19 +2,22 @@
 //
 // The planner is `propagator::plans::plan`, the reader `checker::check`. At each promise two wrong programs are named that it rules out;
 // each stands as an edit in its crate's must-fail and docs/EDITS.md tells which fact breaks.
-use checker::Verdict;
+use checker::Judgement;
 use checker::check;
 use propagator::Answer;
 use propagator::plans::plan;
 use questions::Refusal;
-ghost use Rattle.reservoir.specs.Assured.{written-of, Copied, Unread, Assured};
 ghost use mathlib.Core.Path.{_≡_};
 ghost use lib.ListN.{length};
+ghost use Rattle.model.specs.Job.{job};
+ghost use Rattle.model.specs.Planner.{refused};
+ghost use Rattle.checker.specs.Judgement.{reply-of};
+ghost use Rattle.reservoir.specs.Assured.{written-of, Copied, Assured};
 
-// The planner's answer, and the reader's verdict on the list that it wrote.
+// The planner's answer, and the reader's judgement on the list that it wrote.
 pub struct Checked {
     pub answer: Answer,
-    pub verdict: Verdict,
+    pub judgement: Judgement,
 }
 
 // The length of the list that was written, or why none was.
@@ -50,20 +53,13 @@ fn keep(table: &[i32], copy: &mut [i32; 256])
     }
 }
 
-// A call that was refused, with no list to read.
-fn unread(answer: Answer, w: Written) -> Checked
-    requires { ⌜ w ≡ written-of answer ⌝ }
-    ensures { λ c. ⌜ (c .answer ≡ answer) × Unread w c ⌝ }
+// A call that was refused: there is no list to read.
+fn unread(answer: Answer, r: Refusal) -> Checked
+    ensures { λ c. ⌜ (c .answer ≡ answer) × (reply-of (c .judgement) ≡ refused (r .number) (r .place)) ⌝ }
 {
-    match w {
-        Written::Nothing(r) => Checked {
-            answer: answer,
-            verdict: Verdict::Refused(r),
-        },
-        Written::Listed(_) => Checked {
-            answer: answer,
-            verdict: Verdict::Open,
-        },
+    Checked {
+        answer: answer,
+        judgement: Judgement::Refused(r),
     }
 }
 
@@ -80,17 +76,7 @@ pub fn plan_and_read(
     buffer: &mut [i32],
 ) -> Checked
     ensures { λ r. ⌜
-        Assured
-        h
-        low
-        high
-        q
-        (now (table .entry))
-        (now (lags .entry))
-        (now (buffer .entry))
-        (now (table .exit))
-        (now (buffer .exit))
-        r
+        Assured (job h low high q (now (table .entry)) (now (lags .entry))) (now (buffer .entry)) (now (table .exit)) (now (buffer .exit)) r
         ⌝ }
 {
     let n = table.len();
@@ -98,12 +84,14 @@ pub fn plan_and_read(
     keep(table, &mut copy);
     let answer = plan(h, low, high, q, table, lags, buffer);
     let w = list_of(answer);
-    let Written::Listed(len) = w else {
-        return unread(answer, w);
-    };
-    let verdict = check(h, low, high, q, &mut copy[..n], lags, &buffer[..len]);
-    Checked {
-        answer: answer,
-        verdict: verdict,
+    match w {
+        Written::Nothing(r) => unread(answer, r),
+        Written::Listed(len) => {
+            let judgement = check(h, low, high, q, &mut copy[..n], lags, &buffer[..len]);
+            Checked {
+                answer: answer,
+                judgement: judgement,
+            }
+        }
     }
 }

@@ -3,7 +3,7 @@ use super::lines::number;
 use super::lines::put;
 use super::lines::text;
 use super::words::checksum;
-use checker::Verdict;
+use checker::Judgement;
 use propagator::Answer;
 use propagator::Counts;
 use questions::Refusal;
@@ -48,14 +48,14 @@ fn planned(out: &mut [u8; 65536], at: usize, answer: Answer) -> usize
     }
 }
 
-fn judged(out: &mut [u8; 65536], at: usize, verdict: Verdict) -> usize
+fn judged(out: &mut [u8; 65536], at: usize, judgement: Judgement) -> usize
     requires { ⌜ at ≤ 65536 ⌝ }
     ensures { λ r. ⌜ r ≤ 65536 ⌝ }
 {
-    match verdict {
-        Verdict::Open => text(out, at, b"read open"),
-        Verdict::Conflict => text(out, at, b"read conflict"),
-        Verdict::Refused(r) => {
+    match judgement {
+        Judgement::Open => text(out, at, b"read open"),
+        Judgement::Conflict => text(out, at, b"read conflict"),
+        Judgement::Refused(r) => {
             let o = text(out, at, b"read refused");
             refusal(out, o, r)
         }
@@ -79,8 +79,8 @@ fn call(
         let answer = propagator::plans::plan(head[0], head[1], head[2], head[3], table, lags, list);
         return planned(out, at, answer);
     }
-    let verdict = checker::check(head[0], head[1], head[2], head[3], table, lags, list);
-    judged(out, at, verdict)
+    let judgement = checker::check(head[0], head[1], head[2], head[3], table, lags, list);
+    judged(out, at, judgement)
 }
 
 pub fn answer(

@@ -1,12 +1,13 @@
--- `reservoir::plan_and_read` meets its contract.
+-- `reservoir::plan_and_read` meets its contract: what planner and reader promise, put together by the theory's theorem.
 -- Assumes nothing.
-use Rattle.reservoir.specs.Assured.{Unread}
-use mathlib.Core.Path.{subst}
-use Rattle.reservoir.proofs.Assuring.{assured-unread, few, fits, assured-read}
-use lib.Seq.{length-take-le}
+use mathlib.Core.Path.{sym, _∙_}
 use mir.Facts.{toZ-ofZ}
 use native.Mathlib.Omega.{arith}
-use mathlib.Core.Path.{sym, _∙_}
+use lib.ListN.{length, take}
+use lib.Seq.{length-take-le}
+use Rattle.model.specs.Job.{job}
+use Rattle.tables.proofs.Holding.{job-same}
+use Rattle.reservoir.proofs.Assuring.{assured-unread, few, fits, assured-read}
 use borrow.Author.Needs.{needs}
 use Rattle.reservoir.proofs.plan_and_read.Statement.{statement}
 use Rattle.reservoir.proofs.plan_and_read.Tie as tie
@@ -23,11 +24,52 @@ list-of-requires c κs = search needs
 enum-known-w : tie.Need-enum-known-w
 enum-known-w c = search needs
 
-enum-told : tie.Need-enum-told
-enum-told c = search needs
-
 unread-requires : tie.Need-unread-requires
 unread-requires c κs = search needs
+
+enum-known-w-2 : tie.Need-enum-known-w-2
+enum-known-w-2 c = search needs
+
+array-borrow-prefix-copy : tie.Need-array-borrow-prefix-copy
+array-borrow-prefix-copy c =
+    let l = c .before .before .before in
+    let p = l .before .before .before .plan in
+    let s = l .before .before .before .before .before .before .before .before .before in
+    let a = s .args in
+    let same = job-same (toZ-ofZ (s .fits .h)) (toZ-ofZ (s .fits .low)) (toZ-ofZ (s .fits .high)) (toZ-ofZ (s .fits .q)) (a .table .now) (a .lags .now) in
+    let k = few (job (a .h) (a .low) (a .high) (a .q) (a .table .now) (a .lags .now)) (a .buffer .now) (p .result) (rw same at (p .ensures .0)) (rw same at (p .ensures .1 .0)) (rw same at (p .ensures .1 .1)) (c .before .w2 .given .0 .0) (sym (l .list-of .ensures) ∙ c .before .w2 .given .1) in
+    omega (arith, l .before .before .before .before .before .before .keep .ensures .whole)
+
+slice-aggregate-check : tie.Need-slice-aggregate-check
+slice-aggregate-check c =
+    let l = c .before .before .before .before in
+    let p = l .before .before .before .plan in
+    let s = l .before .before .before .before .before .before .before .before .before in
+    let a = s .args in
+    let same = job-same (toZ-ofZ (s .fits .h)) (toZ-ofZ (s .fits .low)) (toZ-ofZ (s .fits .high)) (toZ-ofZ (s .fits .q)) (a .table .now) (a .lags .now) in
+    let k = few (job (a .h) (a .low) (a .high) (a .q) (a .table .now) (a .lags .now)) (a .buffer .now) (p .result) (rw same at (p .ensures .0)) (rw same at (p .ensures .1 .0)) (rw same at (p .ensures .1 .1)) (c .before .before .w2 .given .0 .0) (sym (l .list-of .ensures) ∙ c .before .before .w2 .given .1) in
+    sym (length-take-le _ _ (omega (arith, l .before .before .before .before .before .before .keep .ensures .whole)))
+
+slice-reshare-prefix-check : tie.Need-slice-reshare-prefix-check
+slice-reshare-prefix-check c =
+    let l = c .before .before .before .before in
+    let p = l .before .before .before .plan in
+    let s = l .before .before .before .before .before .before .before .before .before in
+    let a = s .args in
+    let same = job-same (toZ-ofZ (s .fits .h)) (toZ-ofZ (s .fits .low)) (toZ-ofZ (s .fits .high)) (toZ-ofZ (s .fits .q)) (a .table .now) (a .lags .now) in
+    fits (job (a .h) (a .low) (a .high) (a .q) (a .table .now) (a .lags .now)) (a .buffer .now) (p .result) (rw same at (p .ensures .0)) (rw same at (p .ensures .1 .0)) (rw same at (p .ensures .1 .1)) (c .before .before .w2 .given .0 .0) (sym (l .list-of .ensures) ∙ c .before .before .w2 .given .1)
+
+slice-aggregate-check-2 : tie.Need-slice-aggregate-check-2
+slice-aggregate-check-2 c =
+    let l = c .before .before .before .before .before in
+    let p = l .before .before .before .plan in
+    let s = l .before .before .before .before .before .before .before .before .before in
+    let a = s .args in
+    let same = job-same (toZ-ofZ (s .fits .h)) (toZ-ofZ (s .fits .low)) (toZ-ofZ (s .fits .high)) (toZ-ofZ (s .fits .q)) (a .table .now) (a .lags .now) in
+    sym (length-take-le _ _ (fits (job (a .h) (a .low) (a .high) (a .q) (a .table .now) (a .lags .now)) (a .buffer .now) (p .result) (rw same at (p .ensures .0)) (rw same at (p .ensures .1 .0)) (rw same at (p .ensures .1 .1)) (c .before .before .before .w2 .given .0 .0) (sym (l .list-of .ensures) ∙ c .before .before .before .w2 .given .1)))
+
+check-requires : tie.Need-check-requires
+check-requires c κs = search needs
 
 same-length : tie.Need-same-length
 same-length c = search needs
@@ -37,85 +79,12 @@ same-length-2 c = search needs
 
 returns : tie.Need-returns
 returns c =
-    let s = c .before .before .before .before .before .before .before .before .before .before .before .before in
+    let l = c .before .before .before .before in
+    let p = l .before .before .before .plan in
+    let s = l .before .before .before .before .before .before .before .before .before in
     let a = s .args in
-    assured-unread (a .h) (a .low) (a .high) (a .q) (a .table .now) (a .lags .now) (a .buffer .now)
-    (c .before .before .before .before .before .before .plan .result)
-    (rw (toZ-ofZ (s .fits .h), toZ-ofZ (s .fits .low), toZ-ofZ (s .fits .high), toZ-ofZ (s .fits .q)) at
-    (c .before .before .before .before .before .before .plan .ensures .0))
-    (rw (toZ-ofZ (s .fits .h), toZ-ofZ (s .fits .low), toZ-ofZ (s .fits .high), toZ-ofZ (s .fits .q)) at
-    (c .before .before .before .before .before .before .plan .ensures .1 .0))
-    (rw (toZ-ofZ (s .fits .h), toZ-ofZ (s .fits .low), toZ-ofZ (s .fits .high), toZ-ofZ (s .fits .q)) at
-    (c .before .before .before .before .before .before .plan .ensures .1 .1))
-    (c .before .enum-told .given .0 .0) (sym (c .before .before .before .list-of .ensures) ∙ c .before .enum-told .given .1) (c .unread .result)
-    (c .unread .ensures .0) (subst (λ z. Unread z (c .unread .result)) (c .before .enum-told .given .1) (c .unread .ensures .1))
-
-array-borrow-prefix-copy : tie.Need-array-borrow-prefix-copy
-array-borrow-prefix-copy c =
-    let s = c .before .before .before .before .before .before .before .before .before .before .before .before in
-    let a = s .args in
-    let k =
-    few (a .h) (a .low) (a .high) (a .q) (a .table .now) (a .lags .now) (a .buffer .now)
-    (c .before .before .before .before .before .before .plan .result)
-    (rw (toZ-ofZ (s .fits .h), toZ-ofZ (s .fits .low), toZ-ofZ (s .fits .high), toZ-ofZ (s .fits .q)) at
-    (c .before .before .before .before .before .before .plan .ensures .0))
-    (rw (toZ-ofZ (s .fits .h), toZ-ofZ (s .fits .low), toZ-ofZ (s .fits .high), toZ-ofZ (s .fits .q)) at
-    (c .before .before .before .before .before .before .plan .ensures .1 .0))
-    (rw (toZ-ofZ (s .fits .h), toZ-ofZ (s .fits .low), toZ-ofZ (s .fits .high), toZ-ofZ (s .fits .q)) at
-    (c .before .before .before .before .before .before .plan .ensures .1 .1))
-    (c .before .w .given .0 .0) (sym (c .before .before .before .list-of .ensures) ∙ c .before .w .given .1) in
-    omega (arith, (c .before .before .before .before .before .before .before .before .before .keep .ensures) .whole)
-
-slice-aggregate-check : tie.Need-slice-aggregate-check
-slice-aggregate-check c =
-    let s = c .before .before .before .before .before .before .before .before .before .before .before .before .before in
-    let a = s .args in
-    let k =
-    few (a .h) (a .low) (a .high) (a .q) (a .table .now) (a .lags .now) (a .buffer .now)
-    (c .before .before .before .before .before .before .before .plan .result)
-    (rw (toZ-ofZ (s .fits .h), toZ-ofZ (s .fits .low), toZ-ofZ (s .fits .high), toZ-ofZ (s .fits .q)) at
-    (c .before .before .before .before .before .before .before .plan .ensures .0))
-    (rw (toZ-ofZ (s .fits .h), toZ-ofZ (s .fits .low), toZ-ofZ (s .fits .high), toZ-ofZ (s .fits .q)) at
-    (c .before .before .before .before .before .before .before .plan .ensures .1 .0))
-    (rw (toZ-ofZ (s .fits .h), toZ-ofZ (s .fits .low), toZ-ofZ (s .fits .high), toZ-ofZ (s .fits .q)) at
-    (c .before .before .before .before .before .before .before .plan .ensures .1 .1))
-    (c .before .before .w .given .0 .0) (sym (c .before .before .before .before .list-of .ensures) ∙ c .before .before .w .given .1) in
-    sym
-    (length-take-le _ _ (omega (arith, (c .before .before .before .before .before .before .before .before .before .before .keep .ensures) .whole)))
-
-slice-reshare-prefix-check : tie.Need-slice-reshare-prefix-check
-slice-reshare-prefix-check c =
-    let s = c .before .before .before .before .before .before .before .before .before .before .before .before .before in
-    let a = s .args in
-    fits (a .h) (a .low) (a .high) (a .q) (a .table .now) (a .lags .now) (a .buffer .now)
-    (c .before .before .before .before .before .before .before .plan .result)
-    (rw (toZ-ofZ (s .fits .h), toZ-ofZ (s .fits .low), toZ-ofZ (s .fits .high), toZ-ofZ (s .fits .q)) at
-    (c .before .before .before .before .before .before .before .plan .ensures .0))
-    (rw (toZ-ofZ (s .fits .h), toZ-ofZ (s .fits .low), toZ-ofZ (s .fits .high), toZ-ofZ (s .fits .q)) at
-    (c .before .before .before .before .before .before .before .plan .ensures .1 .0))
-    (rw (toZ-ofZ (s .fits .h), toZ-ofZ (s .fits .low), toZ-ofZ (s .fits .high), toZ-ofZ (s .fits .q)) at
-    (c .before .before .before .before .before .before .before .plan .ensures .1 .1))
-    (c .before .before .w .given .0 .0) (sym (c .before .before .before .before .list-of .ensures) ∙ c .before .before .w .given .1)
-
-slice-aggregate-check-2 : tie.Need-slice-aggregate-check-2
-slice-aggregate-check-2 c =
-    let s = c .before .before .before .before .before .before .before .before .before .before .before .before .before .before in
-    let a = s .args in
-    sym
-    (length-take-le _ _
-    (fits (a .h) (a .low) (a .high) (a .q) (a .table .now) (a .lags .now) (a .buffer .now)
-    (c .before .before .before .before .before .before .before .before .plan .result)
-    (rw (toZ-ofZ (s .fits .h), toZ-ofZ (s .fits .low), toZ-ofZ (s .fits .high), toZ-ofZ (s .fits .q)) at
-    (c .before .before .before .before .before .before .before .before .plan .ensures .0))
-    (rw (toZ-ofZ (s .fits .h), toZ-ofZ (s .fits .low), toZ-ofZ (s .fits .high), toZ-ofZ (s .fits .q)) at
-    (c .before .before .before .before .before .before .before .before .plan .ensures .1 .0))
-    (rw (toZ-ofZ (s .fits .h), toZ-ofZ (s .fits .low), toZ-ofZ (s .fits .high), toZ-ofZ (s .fits .q)) at
-    (c .before .before .before .before .before .before .before .before .plan .ensures .1 .1))
-    (c .before .before .before .w .given .0 .0)
-    (sym (c .before .before .before .before .before .list-of .ensures) ∙ c .before .before .before .w .given .1)))
-
-check-requires : tie.Need-check-requires
-check-requires c κs = search needs
+    let same = job-same (toZ-ofZ (s .fits .h)) (toZ-ofZ (s .fits .low)) (toZ-ofZ (s .fits .high)) (toZ-ofZ (s .fits .q)) (a .table .now) (a .lags .now) in
+    assured-unread (job (a .h) (a .low) (a .high) (a .q) (a .table .now) (a .lags .now)) (a .buffer .now) (p .result) (rw same at (p .ensures .0)) (rw same at (p .ensures .1 .0)) (rw same at (p .ensures .1 .1)) (c .before .before .w .given .0 .0) (sym (l .list-of .ensures) ∙ c .before .before .w .given .1) (c .unread .result) (c .unread .ensures .0) (c .unread .ensures .1)
 
 same-length-3 : tie.Need-same-length-3
 same-length-3 c = search needs
@@ -125,22 +94,19 @@ same-length-4 c = search needs
 
 returns-2 : tie.Need-returns-2
 returns-2 c =
-    let s = c .before .before .before .before .before .before .before .before .before .before .before .before .before .before .before .before in
+    let l = c .before .before .before .before .before .before .before in
+    let p = l .before .before .before .plan in
+    let kept = l .before .before .before .before .before .before .keep in
+    let s = l .before .before .before .before .before .before .before .before .before in
     let a = s .args in
-    assured-read (a .h) (a .low) (a .high) (a .q) (a .table .now) (a .lags .now) (a .buffer .now)
-    (c .before .before .before .before .before .before .before .before .before .before .plan .result)
-    (rw (toZ-ofZ (s .fits .h), toZ-ofZ (s .fits .low), toZ-ofZ (s .fits .high), toZ-ofZ (s .fits .q)) at
-    (c .before .before .before .before .before .before .before .before .before .before .plan .ensures .0))
-    (rw (toZ-ofZ (s .fits .h), toZ-ofZ (s .fits .low), toZ-ofZ (s .fits .high), toZ-ofZ (s .fits .q)) at
-    (c .before .before .before .before .before .before .before .before .before .before .plan .ensures .1 .0))
-    (rw (toZ-ofZ (s .fits .h), toZ-ofZ (s .fits .low), toZ-ofZ (s .fits .high), toZ-ofZ (s .fits .q)) at
-    (c .before .before .before .before .before .before .before .before .before .before .plan .ensures .1 .1))
-    (c .before .before .before .before .before .w .given .0 .0)
-    (sym (c .before .before .before .before .before .before .before .list-of .ensures) ∙ c .before .before .before .before .before .w .given .1)
-    (c .before .before .before .before .before .before .before .before .before .before .before .before .before .keep .last .1 .0)
-    (c .before .before .before .before .before .before .before .before .before .before .before .before .before .keep .ensures)
-    (c .before .check .result)
-    (rw (toZ-ofZ (s .fits .h), toZ-ofZ (s .fits .low), toZ-ofZ (s .fits .high), toZ-ofZ (s .fits .q)) at (c .before .check .ensures .0))
+    let same = job-same (toZ-ofZ (s .fits .h)) (toZ-ofZ (s .fits .low)) (toZ-ofZ (s .fits .high)) (toZ-ofZ (s .fits .q)) (a .table .now) (a .lags .now) in
+    let j = job (a .h) (a .low) (a .high) (a .q) (a .table .now) (a .lags .now) in
+    let len = c .before .before .before .before .before .w2 .given .0 .0 in
+    let listed = sym (l .list-of .ensures) ∙ c .before .before .before .before .before .w2 .given .1 in
+    let room = few j (a .buffer .now) (p .result) (rw same at (p .ensures .0)) (rw same at (p .ensures .1 .0)) (rw same at (p .ensures .1 .1)) len listed in
+    let copied = kept .ensures .first room in
+    let sent = job-same (toZ-ofZ (s .fits .h)) (toZ-ofZ (s .fits .low)) (toZ-ofZ (s .fits .high)) (toZ-ofZ (s .fits .q)) (take (length (a .table .now)) (kept .last .1 .0)) (a .lags .now) in
+    assured-read j (a .buffer .now) (p .result) (rw same at (p .ensures .0)) (rw same at (p .ensures .1 .0)) (rw same at (p .ensures .1 .1)) len listed (c .before .check .result) (rw (sent, copied) at (c .before .check .ensures .0))
 
 pub plan-and-read-spec : {M : Type 1} → statement M
 plan-and-read-spec =
@@ -150,16 +116,16 @@ plan-and-read-spec =
     plan-requires
     list-of-requires
     enum-known-w
-    enum-told
     unread-requires
-    same-length
-    same-length-2
-    returns
+    enum-known-w-2
     array-borrow-prefix-copy
     slice-aggregate-check
     slice-reshare-prefix-check
     slice-aggregate-check-2
     check-requires
+    same-length
+    same-length-2
+    returns
     same-length-3
     same-length-4
     returns-2)
