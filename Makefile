@@ -8,8 +8,8 @@ JOB ?= examples/worked.txt
 
 .PHONY: run gate bench prove format
 run:
-	rt check planner > /dev/null
-	target/bin/planner < $(JOB)
+	rt check orthmuzi > /dev/null
+	target/bin/orthmuzi < $(JOB)
 gate:
 	bash .ci/run
 bench:

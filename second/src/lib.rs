@@ -13,6 +13,7 @@ pub mod explain;
 pub mod explanation;
 pub mod gen_jobs;
 pub mod gen_lists;
+pub mod gen_texts;
 pub mod job;
 pub mod propagator;
 pub mod rng;

@@ -1,12 +1,14 @@
-//! The command line: `second plan | stream | answers | counts | brute`.
+//! The command line: `second plan | texts | stream | answers | counts | brute`.
 
 use std::io::{self, BufReader, BufWriter, Write};
+use std::path::Path;
 use std::process::ExitCode;
 
-use second::{answers, brute, counts, stream, text};
+use second::{answers, brute, counts, gen_texts, stream, text};
 
 const USAGE: &str = "usage:
   second plan < TEXT                    answer one job given as text
+  second texts SEED N FOLDER            write N texts as files, and what they are answered
   second stream SEED JOBS LISTS > FILE  write a seeded stream of records
   second answers < FILE                 one answer line for every record
   second counts < FILE                  what the stream reaches
@@ -19,6 +21,10 @@ fn main() -> ExitCode {
     let words: Vec<&str> = arguments.iter().map(String::as_str).collect();
     let done = match words.as_slice() {
         ["plan"] => run_text(),
+        ["texts", seed, count, folder] => match (seed.parse(), count.parse()) {
+            (Ok(seed), Ok(count)) => run_texts(seed, count, Path::new(folder)),
+            _ => return usage(),
+        },
         ["stream", seed, jobs, lists] => match (seed.parse(), jobs.parse(), lists.parse()) {
             (Ok(seed), Ok(jobs), Ok(lists)) => run_stream(seed, jobs, lists),
             _ => return usage(),
@@ -58,6 +64,13 @@ fn run_text() -> io::Result<bool> {
     let answer = text::answer_input(&mut io::stdin().lock())?;
     let mut out = output();
     out.write_all(answer.as_bytes())?;
+    out.flush()?;
+    Ok(true)
+}
+
+fn run_texts(seed: u64, count: usize, folder: &Path) -> io::Result<bool> {
+    let mut out = output();
+    gen_texts::write_texts(&mut out, seed, count, folder)?;
     out.flush()?;
     Ok(true)
 }

@@ -2,6 +2,8 @@
 
 use std::io::{self, Read};
 
+use second::gen_texts::random_text;
+use second::rng::Rng;
 use second::text::{answer_input, answer_text};
 
 const MALFORMED: &str = "refused 20 0\n";
@@ -140,4 +142,23 @@ fn pieces_of_any_size() {
     assert_eq!(lines.as_bytes(), answer_text(text).as_bytes());
     let bad = answer_input(&mut Drip(b"100 0 10 0 0 0 -")).expect("reading from memory");
     assert_eq!(bad, MALFORMED);
+}
+
+/// The random texts of the gate's seed reach every answer that the program has.
+#[test]
+fn random_texts_reach_all_answers() {
+    let mut rng = Rng::new(1);
+    let answers: Vec<String> = (0..2_000)
+        .map(|_| answer_text(&random_text(&mut rng)))
+        .collect();
+    let wanted = ["settled ", "conflict ", "stopped "]
+        .map(String::from)
+        .into_iter()
+        .chain([1, 2, 3, 5, 6, 8, 9, 10, 20].map(|number| format!("refused {number} ")));
+    for beginning in wanted {
+        assert!(
+            answers.iter().any(|answer| answer.starts_with(&beginning)),
+            "{beginning}"
+        );
+    }
 }

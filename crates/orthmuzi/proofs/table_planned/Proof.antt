@@ -1,0 +1,116 @@
+-- `orthmuzi::table_planned` meets its contract.
+-- Assumes nothing.
+use mathlib.Core.Path.{sym}
+use Prim.Native.Nat.{_*_}
+use native.Mathlib.Omega.{arith}
+use lib.ListN.{length-take, length-drop}
+use lib.Seq.{length-take-le}
+use Rattle.integers.proofs.Linear.{back32}
+use Rattle.scanner.specs.Layout.{at}
+use Rattle.orthmuzi.proofs.Answering.{answered-as, job-at}
+use borrow.Author.Needs.{needs}
+use Rattle.orthmuzi.proofs.table_planned.Statement.{statement}
+use Rattle.orthmuzi.proofs.table_planned.Tie as tie
+
+mul-words : tie.Need-mul-words
+mul-words c = search needs
+
+add-lags : tie.Need-add-lags
+add-lags c = search needs
+
+mul-end : tie.Need-mul-end
+mul-end c = search needs
+
+add-end : tie.Need-add-end
+add-end c = search needs
+
+slice-relend-prefix-windows : tie.Need-slice-relend-prefix-windows
+slice-relend-prefix-windows c = search needs
+
+slice-aggregate-windows : tie.Need-slice-aggregate-windows
+slice-aggregate-windows c = sym (length-take-le _ _ (omega arith))
+
+sub-copy : tie.Need-sub-copy
+sub-copy c = search needs
+
+part-copy-start : tie.Need-part-copy-start
+part-copy-start c = search needs
+
+part-copy-end : tie.Need-part-copy-end
+part-copy-end c = search needs
+
+copy-requires : tie.Need-copy-requires
+copy-requires c κs = simp (length-take, length-drop) (omega arith)
+
+shared-slice-copy-out-planned : tie.Need-shared-slice-copy-out-planned
+shared-slice-copy-out-planned c = search needs
+
+shared-slice-copy-out-planned-2 : tie.Need-shared-slice-copy-out-planned-2
+shared-slice-copy-out-planned-2 c = search needs
+
+shared-slice-copy-out-planned-3 : tie.Need-shared-slice-copy-out-planned-3
+shared-slice-copy-out-planned-3 c = search needs
+
+shared-slice-copy-out-planned-4 : tie.Need-shared-slice-copy-out-planned-4
+shared-slice-copy-out-planned-4 c = search needs
+
+mul-planned : tie.Need-mul-planned
+mul-planned c = search needs
+
+sub-planned : tie.Need-sub-planned
+sub-planned c = search needs
+
+part-planned-start : tie.Need-part-planned-start
+part-planned-start c = search needs
+
+part-planned-end : tie.Need-part-planned-end
+part-planned-end c = search needs
+
+planned-requires : tie.Need-planned-requires
+planned-requires c κs =
+    let k = c .before .before .before .before .before .before .before in
+    let a = k .before .before .before .before .before .before .before .args in
+    (omega (arith, k .copy .kept .1 .0, length-take (4 * a .s .events) (a .space .now)), search needs)
+
+same-length : tie.Need-same-length
+same-length c = search needs
+
+same-length-2 : tie.Need-same-length-2
+same-length-2 c = search needs
+
+returns : tie.Need-returns
+returns c =
+    let k = c .before .before .before in
+    let t = k .before .before .before .before .before .before .before .before .before .before .before .before .before .before .before .args in
+    answered-as
+    (job-at (t .table .now) (t .s)
+    (back32 (at (t .table .now) 0) (search)) (back32 (at (t .table .now) 1) (search)) (back32 (at (t .table .now) 2) (search)) (back32 (at (t .table .now) 3) (search))
+    (k .before .before .before .before .before .before .before .before .copy .ensures))
+    (k .planned .ensures)
+
+pub table-planned-spec : {M : Type 1} → statement M
+table-planned-spec =
+    tie.close
+    (tie.spec
+    mul-words
+    add-lags
+    mul-end
+    add-end
+    slice-relend-prefix-windows
+    slice-aggregate-windows
+    sub-copy
+    part-copy-start
+    part-copy-end
+    copy-requires
+    shared-slice-copy-out-planned
+    shared-slice-copy-out-planned-2
+    shared-slice-copy-out-planned-3
+    shared-slice-copy-out-planned-4
+    mul-planned
+    sub-planned
+    part-planned-start
+    part-planned-end
+    planned-requires
+    same-length
+    same-length-2
+    returns)

@@ -1,6 +1,0 @@
-pub mod Bytes
-pub mod Grammar
-pub mod Scanner
-pub mod Layout
-pub mod Output
-pub mod Buffer

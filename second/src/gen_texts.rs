@@ -1,0 +1,217 @@
+//! Random texts for the text program: jobs written in many ways, and texts
+//! with something broken.
+
+use std::fs;
+use std::io::{self, Write};
+use std::path::Path;
+
+use crate::gen_jobs::{at_odds, make_faulty, sound_job, RawJob};
+use crate::job::{EVENT_WORDS, LAG_WORDS};
+use crate::rng::Rng;
+use crate::text::answer_text;
+
+/// Writes texts 0, 1, .. into a folder, one a file, and to `out` what the text
+/// program answers to each, followed by a line that names it.
+pub fn write_texts(out: &mut impl Write, seed: u64, count: usize, folder: &Path) -> io::Result<()> {
+    let mut rng = Rng::new(seed);
+    for number in 0..count {
+        let name = format!("{number:06}");
+        let text = random_text(&mut rng);
+        fs::write(folder.join(&name), &text)?;
+        writeln!(out, "{}-- {name}", answer_text(&text))?;
+    }
+    Ok(())
+}
+
+/// Six texts of ten are a job's, sound or faulty; the others have something
+/// broken.
+pub fn random_text(rng: &mut Rng) -> Vec<u8> {
+    let mut numbers = job_numbers(rng);
+    let kind = rng.below(10);
+    if kind == 9 {
+        return noise(rng);
+    }
+    if kind == 6 {
+        miscount(rng, &mut numbers);
+    }
+    let mut words = spelled(rng, &numbers);
+    if kind == 7 {
+        misspell(rng, &mut words);
+    }
+    let mut text = join(rng, &words);
+    if kind == 8 {
+        damage(rng, &mut text);
+    }
+    text
+}
+
+// ---------------------------------------------------------------------------
+// Numbers
+// ---------------------------------------------------------------------------
+
+/// The numbers of a job's text: H Lmin Lmax Q n m, the events, the lags.
+fn job_numbers(rng: &mut Rng) -> Vec<i64> {
+    let job = random_job(rng);
+    let head = [
+        job.settings.horizon,
+        job.settings.lower,
+        job.settings.upper,
+        job.settings.opening,
+        (job.windows.len() / EVENT_WORDS) as i32,
+        (job.lags.len() / LAG_WORDS) as i32,
+    ];
+    head.iter()
+        .chain(&job.windows)
+        .chain(&job.lags)
+        .map(|word| i64::from(*word))
+        .collect()
+}
+
+fn random_job(rng: &mut Rng) -> RawJob {
+    let mut job = match rng.below(100) {
+        0 => at_odds(rng, 20_000),
+        _ => sound_job(rng),
+    };
+    if rng.chance(1, 4) {
+        let mut room = 0;
+        make_faulty(rng, &mut job, &mut room);
+    }
+    job
+}
+
+/// A number too few or too many, or counts that do not fit.
+fn miscount(rng: &mut Rng, numbers: &mut Vec<i64>) {
+    match rng.below(6) {
+        0 => {
+            numbers.pop();
+        }
+        1 => numbers.push(rng.within(-9, 9)),
+        2 => numbers.truncate(rng.below(numbers.len())),
+        3 => numbers[4] = rng.pick(&[-1, 65, 64, i64::from(i32::MAX)]),
+        4 => numbers[5] = rng.pick(&[-1, 257, 256, i64::from(i32::MIN)]),
+        _ => {
+            let place = 4 + rng.below(2);
+            numbers[place] += rng.pick(&[-1, 1]);
+        }
+    }
+}
+
+// ---------------------------------------------------------------------------
+// Words
+// ---------------------------------------------------------------------------
+
+/// Each number as it is printed, or some or all of them oddly.
+fn spelled(rng: &mut Rng, numbers: &[i64]) -> Vec<Vec<u8>> {
+    let odd_of_8 = rng.pick(&[0, 0, 0, 1, 8]);
+    let mut words = Vec::new();
+    for number in numbers {
+        words.push(if rng.chance(odd_of_8, 8) {
+            oddly(rng, *number)
+        } else {
+            number.to_string().into_bytes()
+        });
+    }
+    words
+}
+
+/// Leading zeros, and a minus before zero.
+fn oddly(rng: &mut Rng, number: i64) -> Vec<u8> {
+    let minus = number < 0 || (number == 0 && rng.chance(1, 2));
+    let zeros = rng.pick(&[0, 1, 2, 9, 40]);
+    let sign = if minus { "-" } else { "" };
+    format!("{sign}{}{}", "0".repeat(zeros), number.abs()).into_bytes()
+}
+
+/// One word that is no number of 32 bits.
+fn misspell(rng: &mut Rng, words: &mut [Vec<u8>]) {
+    const WRONG: &[&str] = &[
+        "+5",
+        "-",
+        "--5",
+        "5-",
+        "5-3",
+        "-5-",
+        "1.0",
+        "1,",
+        "0x1",
+        "1e2",
+        "a",
+        "2147483648",
+        "-2147483649",
+        "4294967296",
+        "-4294967295",
+        "99999999999999999999",
+        "-00000000002147483649",
+        "1\u{b}2",
+        "\u{b2}",
+    ];
+    let place = rng.below(words.len());
+    words[place] = rng.pick(WRONG).as_bytes().to_vec();
+}
+
+// ---------------------------------------------------------------------------
+// Bytes
+// ---------------------------------------------------------------------------
+
+/// The words with blanks of all kinds between them, sometimes around them.
+fn join(rng: &mut Rng, words: &[Vec<u8>]) -> Vec<u8> {
+    let plain = rng.chance(1, 2);
+    let mut text = Vec::new();
+    if rng.chance(1, 4) {
+        blanks(rng, plain, &mut text);
+    }
+    for (place, word) in words.iter().enumerate() {
+        if place > 0 {
+            blanks(rng, plain, &mut text);
+        }
+        text.extend(word);
+    }
+    if rng.chance(3, 4) {
+        blanks(rng, plain, &mut text);
+    }
+    text
+}
+
+fn blanks(rng: &mut Rng, plain: bool, text: &mut Vec<u8>) {
+    let count = if plain { 1 } else { 1 + rng.below(3) };
+    for _ in 0..count {
+        text.push(if plain { b' ' } else { rng.pick(b" \t\n\r") });
+    }
+}
+
+/// A byte changed, added, taken away or doubled, up to three times; or the
+/// text's end cut off.
+fn damage(rng: &mut Rng, text: &mut Vec<u8>) {
+    const BYTES: &[u8] = b"-+0 9.\n\0\xff\x0b\x0c:/x\"";
+    if rng.chance(1, 5) {
+        text.truncate(rng.below(text.len()));
+        return;
+    }
+    for _ in 0..1 + rng.below(3) {
+        let place = rng.below(text.len());
+        match rng.below(4) {
+            0 => text[place] = rng.pick(BYTES),
+            1 => text.insert(place, rng.pick(BYTES)),
+            2 => text.insert(place, text[place]),
+            _ if text.len() > 1 => {
+                text.remove(place);
+            }
+            _ => {}
+        }
+    }
+}
+
+/// Bytes that are mostly numbers' own, or any bytes.
+fn noise(rng: &mut Rng) -> Vec<u8> {
+    let count = rng.below(60);
+    let any = rng.chance(1, 3);
+    (0..count)
+        .map(|_| {
+            if any {
+                rng.word() as u8
+            } else {
+                rng.pick(b"0123456789  \n\t--")
+            }
+        })
+        .collect()
+}
