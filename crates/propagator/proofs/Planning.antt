@@ -7,7 +7,7 @@ use native.Mathlib.Omega.{arith}
 use lib.IntN.{ℤ}
 use lib.ListN.{length, take, drop, take-append-drop}
 use lib.Seq.{length-take-le}
-use Rattle.model.specs.Job.{windows, events, sent, Job as Call}
+use Rattle.model.specs.Job.{windows, events, sent, job, Job as Call}
 use Rattle.model.specs.Standing.{Ranged}
 use Rattle.model.specs.Slips.{trailer}
 use Rattle.model.specs.Rounds.{run, start}
@@ -78,11 +78,17 @@ module _ {k : Job} {ws table b buffer b′ buffer′ : List ℤ} {e : Ended} (l 
 
 -- ---- the planner
 
+-- The job at hand is of the call with these numbers.
+pub of-call : {k : Job} {h h′ low low′ high high′ q q′ : ℤ} {table ws : List ℤ} → h′ ≡ h → low′ ≡ low → high′ ≡ high → q′ ≡ q → Holds k ws (job h′ low′ high′ q′ table ws) → Holds k ws (job h low high q table ws)
+of-call a b c d x = rw (a, b, c, d) at x
+
 -- A call, the job at hand that is of it, and what its questions came to.
 module _ (j : Call) (buffer : List ℤ) {k : Job} {x : Check} (h : Holds k (j .lag-table) j) (e : check-of x ≡ questions j (length buffer)) where
-  pub plan-refused : {r : Refusal} → x ≡ Refuse r → Outcomes (plan j buffer) (j .window-table) buffer (Refused r)
+  pub plan-refused : {r : Refusal} {a : Answer} {table′ : List ℤ} → x ≡ Refuse r → (a ≡ Refused r) × (table′ ≡ j .window-table) → Outcomes (plan j buffer) table′ buffer a
   unfolding plan
-  plan-refused f = let g = sym e ∙ ap check-of f in rw (plan, g) (record { answer = refl; windows = refl; slips = refl })
+  plan-refused f told =
+      let g = sym e ∙ ap check-of f in
+      rw (plan, g) (record { answer = ap reply-of (told .0); windows = told .1; slips = refl })
 
   module _ (f : x ≡ Pass) where
     passes : questions j (length buffer) ≡ pass

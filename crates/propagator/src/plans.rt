@@ -5,6 +5,7 @@ use crate::Ended;
 use crate::Verdict;
 use crate::runs::run;
 use questions::Check;
+use questions::Refusal;
 use questions::asked::questions;
 use slips::appending::append_trailer;
 use tables::Job;
@@ -21,6 +22,7 @@ ghost use Rattle.model.specs.Planner.{done, planned, plan};
 ghost use Rattle.tables.specs.Job.{Holds, Fit};
 ghost use Rattle.propagator.specs.Runs.{verdict-of};
 ghost use Rattle.propagator.specs.Plans.{reply-of, Outcomes};
+ghost use Rattle.propagator.specs.declared.Answer.the-variants.{Refused};
 
 // The answer of a run that has ended, with the list's length.
 pub fn answer(e: Ended, length: usize) -> Answer
@@ -70,6 +72,13 @@ pub fn planned(k: Job, table: &mut [i32], lags: &[i32], buffer: &mut [i32]) -> A
     answer(e, length)
 }
 
+// A call that a question stops: no word of its window table changes.
+fn refused(r: Refusal, table: &mut [i32]) -> Answer
+    ensures { λ a. ⌜ (a ≡ Refused r) × (now (table .exit) ≡ now (table .entry)) ⌝ }
+{
+    Answer::Refused(r)
+}
+
 // The planner: the reply, and every word of the window table and the slip buffer, as document 01 says. A refusal changes no lent word.
 // It rules out a planner that writes no slip (no_slip) and one that answers conflict always (conflict_always).
 pub fn plan(
@@ -88,7 +97,7 @@ pub fn plan(
     let k = job_of(h, low, high, q, table.len() / 4);
     let check = questions(k, table, lags, buffer.len());
     match check {
-        Check::Refuse(r) => Answer::Refused(r),
+        Check::Refuse(r) => refused(r, table),
         Check::Pass => planned(k, table, lags, buffer),
     }
 }

@@ -2,7 +2,7 @@
 use mathlib.Core.Path.{refl}
 use mir.Facts.{toZ-ofZ}
 use Rattle.model.specs.Job.{job}
-use Rattle.propagator.proofs.Planning.{plan-refused, plan-asks, plan-passed}
+use Rattle.propagator.proofs.Planning.{of-call, plan-refused, plan-asks, plan-passed}
 use borrow.Author.Needs.{needs}
 use Rattle.propagator.proofs.plans.plan.Statement.{statement}
 use Rattle.propagator.proofs.plans.plan.Tie as tie
@@ -16,6 +16,9 @@ questions-requires c κs = search needs
 enum-known-check : tie.Need-enum-known-check
 enum-known-check c = search needs
 
+refused-requires : tie.Need-refused-requires
+refused-requires c κs = search needs
+
 enum-told : tie.Need-enum-told
 enum-told c = search needs
 
@@ -24,8 +27,7 @@ planned-requires c κs =
     let s = c .before .before .before .before .before .before .before in
     let a = s .args in
     let j = job (a .h) (a .low) (a .high) (a .q) (a .table .now) (a .lags .now) in
-    let of = rw (toZ-ofZ (s .fits .h), toZ-ofZ (s .fits .low), toZ-ofZ (s .fits .high), toZ-ofZ (s .fits .q)) at (c .before .before .before .before .before .before .job-of .ensures) in
-    let h = of (a .table .now) (a .lags .now) refl in
+    let h = of-call (toZ-ofZ (s .fits .h)) (toZ-ofZ (s .fits .low)) (toZ-ofZ (s .fits .high)) (toZ-ofZ (s .fits .q)) (c .before .before .before .before .before .before .job-of .ensures (a .table .now) (a .lags .now) refl) in
     plan-asks j (a .buffer .now) h (c .before .before .before .before .questions .ensures j h refl) (c .before .before .enum-told .given .1)
 
 same-length : tie.Need-same-length
@@ -33,12 +35,11 @@ same-length c = search needs
 
 returns : tie.Need-returns
 returns c =
-    let s = c .before .before .before .before .before .before in
+    let s = c .before .before .before .before .before .before .before .before .before in
     let a = s .args in
     let j = job (a .h) (a .low) (a .high) (a .q) (a .table .now) (a .lags .now) in
-    let of = rw (toZ-ofZ (s .fits .h), toZ-ofZ (s .fits .low), toZ-ofZ (s .fits .high), toZ-ofZ (s .fits .q)) at (c .before .before .before .before .before .job-of .ensures) in
-    let h = of (a .table .now) (a .lags .now) refl in
-    let o = plan-refused j (a .buffer .now) h (c .before .before .before .questions .ensures j h refl) (c .before .check .given .1) in
+    let h = of-call (toZ-ofZ (s .fits .h)) (toZ-ofZ (s .fits .low)) (toZ-ofZ (s .fits .high)) (toZ-ofZ (s .fits .q)) (c .before .before .before .before .before .before .before .before .job-of .ensures (a .table .now) (a .lags .now) refl) in
+    let o = plan-refused j (a .buffer .now) h (c .before .before .before .before .before .before .questions .ensures j h refl) (c .before .before .before .before .check .given .1) (c .before .refused .ensures) in
     (o .answer, (o .windows, o .slips))
 
 same-length-2 : tie.Need-same-length-2
@@ -52,8 +53,7 @@ returns-2 c =
     let s = c .before .before .before .before .before .before .before .before .before .before in
     let a = s .args in
     let j = job (a .h) (a .low) (a .high) (a .q) (a .table .now) (a .lags .now) in
-    let of = rw (toZ-ofZ (s .fits .h), toZ-ofZ (s .fits .low), toZ-ofZ (s .fits .high), toZ-ofZ (s .fits .q)) at (c .before .before .before .before .before .before .before .before .before .job-of .ensures) in
-    let h = of (a .table .now) (a .lags .now) refl in
+    let h = of-call (toZ-ofZ (s .fits .h)) (toZ-ofZ (s .fits .low)) (toZ-ofZ (s .fits .high)) (toZ-ofZ (s .fits .q)) (c .before .before .before .before .before .before .before .before .before .job-of .ensures (a .table .now) (a .lags .now) refl) in
     let o = plan-passed j (a .buffer .now) h (c .before .before .before .before .before .before .before .questions .ensures j h refl) (c .before .before .before .before .before .enum-told .given .1) (c .before .before .planned .ensures j h) in
     (o .answer, (o .windows, o .slips))
 
@@ -64,6 +64,7 @@ plan-spec =
     job-of-requires
     questions-requires
     enum-known-check
+    refused-requires
     enum-told
     planned-requires
     same-length
