@@ -1,10 +1,9 @@
 // What the program prints: an answer's line, the windows by event, a list's words.
 use checker::Judgement;
+use printer::magnitude;
 use propagator::Answer;
 use propagator::Counts;
 use questions::Refusal;
-ghost use mathlib.Core.Path.{_≡_};
-ghost use lib.IntN.{natAbs};
 
 pub fn say(text: &[u8]) {
     io::write_all(1, text);
@@ -15,23 +14,12 @@ fn natural(n: usize) {
     io::print_decimal(1, n as u64);
 }
 
-// A word without its sign.
-fn magnitude(x: i32) -> u64
-    ensures { λ r. ⌜ r ≡ natAbs x ⌝ }
-{
-    if x < 0 {
-        let z = x as i64;
-        return (-z) as u64;
-    }
-    x as u64
-}
-
 fn word(x: i32) {
     say(b" ");
     if x < 0 {
         say(b"-");
     }
-    io::print_decimal(1, magnitude(x));
+    io::print_decimal(1, magnitude(x) as u64);
 }
 
 // A title and words, on one line.

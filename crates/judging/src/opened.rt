@@ -3,6 +3,8 @@ use levels::places::consumes;
 use levels::places::produces;
 use tables::Height;
 use tables::Job;
+use tables::LEAST_AMOUNT;
+use tables::MOST_AMOUNT;
 use tables::Time;
 use tables::h_max;
 use tables::set_h_max;
@@ -23,7 +25,7 @@ fn widest_h_min(h: Height) -> Height
         return Height(1);
     }
     if consumes(h) {
-        return Height(-9999);
+        return Height(LEAST_AMOUNT);
     }
     Height(0)
 }
@@ -32,7 +34,7 @@ fn widest_h_max(h: Height) -> Height
     ensures { λ r. ⌜ r .0 ≡ widest-h-max (h .0) ⌝ }
 {
     if produces(h) {
-        return Height(9999);
+        return Height(MOST_AMOUNT);
     }
     if consumes(h) {
         return Height(-1);

@@ -58,7 +58,8 @@ fn put_numeral(out: &mut [u8], at: usize, n: usize) -> usize
     put_digits(out, at, n)
 }
 
-fn magnitude(z: i32) -> usize
+// A word without its sign.
+pub fn magnitude(z: i32) -> usize
     ensures { λ r. ⌜ r ≡ natAbs z ⌝ }
 {
     if z < 0 {

@@ -6,6 +6,7 @@ use rules::Effect;
 use rules::effects::effect;
 use rules::effects::is_idle;
 use rules::numbers::own_kind;
+use slips::LONGEST_WITH_TRAILER;
 use slips::appending::append_slip;
 use slips::appending::put_slip;
 use slips::writing::count_premises;
@@ -101,7 +102,7 @@ fn act(
     let n = k.events;
     let cited = citing(b, lags, k, r, e, y, x);
     let used = p.used;
-    if used + 778 <= buffer.len() {
+    if used + LONGEST_WITH_TRAILER <= buffer.len() {
         let next = put_slip(buffer, used, b, n, cited, r, e, y, x);
         store(b, r, y, x);
         let count = p.slips + 1;

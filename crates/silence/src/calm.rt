@@ -18,6 +18,7 @@ use rules::lags::lag_event;
 use rules::lags::lag_lower;
 use rules::lags::lag_upper;
 use tables::Height;
+use tables::MOST_AMOUNT;
 use tables::Reservoir;
 use tables::Time;
 use tables::t_max;
@@ -158,7 +159,7 @@ pub fn are_calm(b: &[i32; 256], n: usize, c: Reservoir, d: Height) -> bool
     requires { ⌜ Ranged n (board (now b)) × SaneCage (reservoir-of c) × Within (d .0) 20000 ⌝ }
     ensures { λ r. ⌜ r ≡ all-calm n (reservoir-of c) (board (now (b .entry))) (d .0) ⌝ }
 {
-    let reach = plus(d, Height(9999));
+    let reach = plus(d, Height(MOST_AMOUNT));
     let low = is_deep(b, n, c, false, reach);
     let high = is_deep(b, n, c, true, reach);
     let ordered = are_ordered(b, n);

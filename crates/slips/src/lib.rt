@@ -12,8 +12,8 @@ pub const MARK: usize = 4207;
 // A slip that is read has 0 to 256 facts.
 pub const MOST_FACTS: i32 = 256;
 
-// The words of a slip with 256 facts: no slip is longer.
-pub const LONGEST: usize = 775;
+// The words of a slip with 256 facts, which no slip passes, and of the trailer.
+pub const LONGEST_WITH_TRAILER: usize = 778;
 
 // A slip: its header, the word place of its first fact, and the number of its facts.
 pub struct Slip {
