@@ -8,7 +8,7 @@ use lib.Dec.{T, eqb, eqb→eq}
 use lib.IntN.{ℤ}
 use lib.ListN.{length, drop}
 use Rattle.integers.proofs.Tests.{true-is, and-out}
-use Rattle.model.specs.Job.{End, opposite, meets, slot, Windows, windows, Job, Schedule, value, Inside, Legal, events}
+use Rattle.model.specs.Job.{End, opposite, meets, slot, Windows, windows, Job, Schedule, value, Inside, Legal, events, widest}
 use Rattle.model.specs.Standing.{Sane, Standing}
 use Rattle.model.specs.Rules.{own-end, bound, idle, narrows, fails, effect, is-narrowing}
 use Rattle.model.specs.Slips.{Explanation, slip-words, slip-length, at, premise-count, slip-at, rule-of, target-of, log-words, last-begins}
@@ -18,7 +18,6 @@ use Rattle.model.specs.Reader.{whole, reading, names, same-end, all-true
 use Rattle.model.specs.Demand.{slips-from}
 use Rattle.model.proofs.Order.{same-end-is, all-true-inside}
 use Rattle.model.proofs.Table.{store, slot-inside, windows-set, standing-narrow}
-use Rattle.model.proofs.Levels.{Signed}
 use Rattle.model.proofs.Sound.{Named, named, Concludes, stands-alone}
 use Rattle.model.proofs.Questions.{refusal, then-out, ask-out}
 use Rattle.model.proofs.Written.{replayed, conflicting-after}
@@ -131,7 +130,7 @@ inside-store {n} {W} {x} i y k v h z m l = go (same-end l k && eqb z y) (λ t. t
         let a = and-out (same-end l k) (eqb z y) (f tt) in
         rw (eqb→eq z y (a .1), same-end-is l k (a .0)) h
 
-module _ (j : Job) (sane : Sane j) (wide : Windows) (signs : Signed (events j) wide) (p : Schedule) (legal : Legal j wide p) where
+module _ (j : Job) (sane : Sane j) (wide : Windows) (signs : Inside (events j) (widest j) wide) (p : Schedule) (legal : Legal j wide p) where
   -- A plan in the windows is in those that the slip leaves, and the slip is no conflict.
   one-kept : (table : List ℤ) (x : Explanation) (k : ℕ) → length table ≡ 4 * events j → Passed j wide (windows table) x k → Inside (events j) (windows table) (value p)
       → Inside (events j) (windows (applied table x)) (value p) × (is-conflict x ≡ true → ⊥)

@@ -8,17 +8,19 @@ use native.Mathlib.Omega.{arith}
 use lib.Dec.{T, eqb}
 use lib.IntN.{ℤ, pos, _+ℤ_, _-ℤ_}
 use lib.Signed.{leZ, ltZ}
+use Rattle.integers.specs.Range.{eqZ}
 use Rattle.integers.proofs.Sums.{sum-ext}
 use Rattle.integers.proofs.Tests.{true-is}
-use Rattle.model.specs.Job.{End, t-min, t-max, h-min, h-max, opposite, meets, Windows, Job, lag-a, lag-b, lag-d, events, ahead}
-use Rattle.model.specs.Standing.{Sane}
-use Rattle.model.specs.View.{side-end, side-value, View, view, seen}
+use Rattle.model.specs.Job.{End, t-min, t-max, h-min, h-max, opposite, meets, Windows, Job, lag-a, lag-b, lag-d, events, ahead, counts-later}
+use Rattle.model.specs.Standing.{Sane, Standing}
+use Rattle.model.specs.View.{side-end, side-value, View, view, seen, view-of}
 use Rattle.model.specs.Levels.{placed, place, gain, gains, most-in, most, sure-gain, sure-part, e-min, e-max, stands}
 use Rattle.model.specs.Rules.{Finding, nothing, clash, bound, given-if, counts-from, earlier, possible-producer, reached-at, earliest, targeted, Family, level, time, height, Rule, lag-upper, lag-lower, reservoir, rule, family-rule, family-end, side-finding, finding, own-end, Effect, idle, narrows, fails, effect, failed, subjects, is-narrowing}
-use Rattle.model.specs.Facts.{any, left-out, surely-consumed, late, early, cites, says, latest, quotes-top, quotes, quoted, drops}
+use Rattle.model.specs.Facts.{any, left-out, surely-consumed, late, early, cites, says, latest, quotes-top, quotes, quoted, drops, family-cites, family-says, first-late, last-early}
 use Rattle.model.specs.Slips.{Premise, Explanation, quote, premise-list, concluded-kind, concluded-value, explanation, premise-event, premise-end, rule-of, subject-of, target-of}
 use Rattle.model.specs.Questions.{_then_, ask}
 use Rattle.model.specs.Reader.{premises-fit, all-true, same-end, narrow, narrowed, is-conflict, as-strict, names, gives, fits-there, slip-questions}
+use Rattle.model.proofs.Levels.{kind-kept}
 use Rattle.model.proofs.Order.{premise-fits}
 use Rattle.model.proofs.Sound.{named}
 
@@ -32,84 +34,111 @@ agree-sym n W X a y l k = sym (a y l k)
 pub seen-agree : (j : Job) (m : Bool) (e n : ℕ) (W X : Windows) → Agree n W X → Agree n (seen j m e W) (seen j m e X)
 seen-agree j m e n W X a y l k = ap (side-value m k) (a y l (side-end m k))
 
--- ---- levels and rules
-
-module _ (E : View) (W X : Windows) (a : Agree (E .events) W X) where
-  pub place-agree : (u v : ℤ) (y : ℕ) → y < E .events → place E W u v y ≡ place E X u v y
-  place-agree u v y l =
-      ap₂ (λ p q. placed (eqb y (E .subject)) (E .before y) (ahead (E .before y) p u) (ahead (E .before y) q v)) (a y l t-max) (a y l t-min)
-
-  pub most-in-agree : (u v : ℤ) → most-in E W u v ≡ most-in E X u v
-  unfolding most-in
-  most-in-agree u v =
-      ap (λ x. E .opening +ℤ x) (sum-ext (E .events) (gains E W u v) (gains E X u v) (λ y l. ap₂ gain (place-agree u v y l) (a y l h-max)))
-
-  module _ (r : E .subject < E .events) where
-    -- e's own window agrees as well.
-    pub place-own : (y : ℕ) → y < E .events → stands E W y ≡ stands E X y
-    place-own y l = place-agree (e-min E W) (e-max E W) y l ∙ ap₂ (λ u v. place E X u v y) (a (E .subject) r t-min) (a (E .subject) r t-max)
-
-    pub most-agree : most E W ≡ most E X
-    most-agree = most-in-agree (e-min E W) (e-max E W) ∙ ap₂ (λ u v. most-in E X u v) (a (E .subject) r t-min) (a (E .subject) r t-max)
-
-    pub sure-part-agree : sure-part E W ≡ sure-part E X
-    unfolding sure-part
-    sure-part-agree =
-        ap (λ x. E .opening +ℤ x)
-        (sum-ext (E .events) (λ y. sure-gain (stands E W y) (W y h-max)) (λ y. sure-gain (stands E X y) (X y h-max)) (λ y l. ap₂ sure-gain (place-own y l) (a y l h-max)))
-
-    pub reached-at-agree : (y : ℕ) → y < E .events → reached-at E W y ≡ reached-at E X y
-    reached-at-agree y l =
-        ap₂ _&&_ (ap₂ possible-producer (place-own y l) (a y l h-max))
-        (ap (leZ (E .limit)) (most-in-agree (e-min E W) (counts-from (E .before y) (W y t-min)) ∙ ap₂ (λ u t. most-in E X u (counts-from (E .before y) t)) (a (E .subject) r t-min) (a y l t-min)))
-
-    pub earliest-agree : (k : ℕ) → k ≤ E .events → earliest E W k ≡ earliest E X k
-    unfolding earliest
-    earliest-agree zero l = refl
-    earliest-agree (suc y) l =
-        ap₂ earlier (earliest-agree y (omega arith)) (ap₂ (λ b t. given-if b (bound (counts-from (E .before y) t))) (reached-at-agree y (omega arith)) (a y (omega arith) t-min))
-
-    pub family-rule-agree : (f : Family) (y : ℕ) → y < E .events → family-rule f E W y ≡ family-rule f E X y
-    family-rule-agree level y l = ap (λ x. given-if (ltZ x (E .limit)) clash) most-agree
-    family-rule-agree time y l =
-        ap₂ (λ x g. given-if (ltZ x (E .limit)) g) sure-part-agree (earliest-agree (E .events) (omega arith))
-    family-rule-agree height y l =
-        ap₂ given-if (ap₂ targeted (place-own y l) (a y l h-max)) (ap₂ (λ x h. bound (E .limit -ℤ (x -ℤ h))) most-agree (a y l h-max))
-
--- ---- facts
+-- ---- levels, rules and facts
 
 any-agree : (n : ℕ) (p q : ℕ → Bool) → ((y : ℕ) → y < n → p y ≡ q y) → any n p ≡ any n q
 unfolding any
 any-agree zero p q h = refl
 any-agree (suc n) p q h = ap₂ _||_ (any-agree n p q (λ y l. h y (omega arith))) (h n (omega arith))
 
-module _ (E : View) (W X : Windows) (a : Agree (E .events) W X) (u v : ℤ) where
-  place-there : (y : ℕ) → y < E .events → place E W u v y ≡ place E X u v y
-  place-there y l =
+-- A view with another test for "before".
+abbrev pub with-before : View → (ℕ → Bool) → View
+with-before E s =
+    record { subject = E .subject; events = E .events; limit = E .limit; opening = E .opening; before = s }
+
+-- The test may be another one too, if it says the same of the events; of the view's own, `with-before E (E .before)` is E.
+module _ (E : View) (s : ℕ → Bool) (same : (y : ℕ) → y < E .events → E .before y ≡ s y) (W X : Windows) (a : Agree (E .events) W X) where
+  abbrev F : View
+  F = with-before E s
+
+  pub place-agree : (u v : ℤ) (y : ℕ) → y < E .events → place E W u v y ≡ place F X u v y
+  place-agree u v y l =
       ap₂ (λ p q. placed (eqb y (E .subject)) (E .before y) (ahead (E .before y) p u) (ahead (E .before y) q v)) (a y l t-max) (a y l t-min)
+      ∙ ap (λ b. placed (eqb y (E .subject)) b (ahead b (X y t-max) u) (ahead b (X y t-min) v)) (same y l)
 
-  pub late-agree : (y : ℕ) → y < E .events → late E W u v y ≡ late E X u v y
-  late-agree y l = ap₂ (λ p h. not (eqb y (E .subject)) && left-out p h) (place-there y l) (a y l h-max)
+  pub most-in-agree : (u v : ℤ) → most-in E W u v ≡ most-in F X u v
+  unfolding most-in
+  most-in-agree u v =
+      ap (λ x. E .opening +ℤ x) (sum-ext (E .events) (gains E W u v) (gains F X u v) (λ y l. ap₂ gain (place-agree u v y l) (a y l h-max)))
 
-  pub early-agree : (y : ℕ) → y < E .events → early E W u v y ≡ early E X u v y
-  early-agree y l = ap₂ (λ p h. not (eqb y (E .subject)) && surely-consumed p h) (place-there y l) (a y l h-max)
+  module _ (r : E .subject < E .events) where
+    -- e's own window agrees as well.
+    pub place-own : (y : ℕ) → y < E .events → stands E W y ≡ stands F X y
+    place-own y l = place-agree (e-min E W) (e-max E W) y l ∙ ap₂ (λ u v. place F X u v y) (a (E .subject) r t-min) (a (E .subject) r t-max)
 
-  pub cites-agree : (top : Bool) (dropped : ℕ → Bool) (z : ℕ) → z < E .events → (k : End) → cites E W u v top dropped z k ≡ cites E X u v top dropped z k
-  cites-agree top dropped z l k =
-      let all-early = any-agree (E .events) (early E W u v) (early E X u v) early-agree in
-      let all-late = any-agree (E .events) (late E W u v) (late E X u v) late-agree in
-      elim k [
-        | t-min ↦ simp (all-early, late-agree z l)
-        | t-max ↦ simp (all-late, early-agree z l)
-        | h-min ↦ refl
-        | h-max ↦ simp (place-there z l, a z l h-max)
-      ]
+    pub most-agree : most E W ≡ most F X
+    most-agree = most-in-agree (e-min E W) (e-max E W) ∙ ap₂ (λ u v. most-in F X u v) (a (E .subject) r t-min) (a (E .subject) r t-max)
 
-  pub says-agree : (z : ℕ) → z < E .events → (k : End) → says E W u v z k ≡ says E X u v z k
-  says-agree z l t-min = refl
-  says-agree z l t-max = refl
-  says-agree z l h-min = a z l h-min
-  says-agree z l h-max = a z l h-max
+    pub sure-part-agree : sure-part E W ≡ sure-part F X
+    unfolding sure-part
+    sure-part-agree =
+        ap (λ x. E .opening +ℤ x)
+        (sum-ext (E .events) (λ y. sure-gain (stands E W y) (W y h-max)) (λ y. sure-gain (stands F X y) (X y h-max)) (λ y l. ap₂ sure-gain (place-own y l) (a y l h-max)))
+
+    pub reached-at-agree : (y : ℕ) → y < E .events → reached-at E W y ≡ reached-at F X y
+    reached-at-agree y l =
+        ap₂ _&&_ (ap₂ possible-producer (place-own y l) (a y l h-max))
+        (ap (leZ (E .limit)) (most-in-agree (e-min E W) (counts-from (E .before y) (W y t-min)) ∙ ap₂ (λ u c. most-in F X u c) (a (E .subject) r t-min) (ap₂ counts-from (same y l) (a y l t-min))))
+
+    pub earliest-agree : (k : ℕ) → k ≤ E .events → earliest E W k ≡ earliest F X k
+    unfolding earliest
+    earliest-agree zero l = refl
+    earliest-agree (suc y) l =
+        ap₂ earlier (earliest-agree y (omega arith)) (ap₂ (λ b c. given-if b (bound c)) (reached-at-agree y (omega arith)) (ap₂ counts-from (same y (omega arith)) (a y (omega arith) t-min)))
+
+    pub family-rule-agree : (f : Family) (y : ℕ) → y < E .events → family-rule f E W y ≡ family-rule f F X y
+    family-rule-agree level y l = ap (λ x. given-if (ltZ x (E .limit)) clash) most-agree
+    family-rule-agree time y l =
+        ap₂ (λ x g. given-if (ltZ x (E .limit)) g) sure-part-agree (earliest-agree (E .events) (omega arith))
+    family-rule-agree height y l =
+        ap₂ given-if (ap₂ targeted (place-own y l) (a y l h-max)) (ap₂ (λ x h. bound (E .limit -ℤ (x -ℤ h))) most-agree (a y l h-max))
+
+  -- Facts, with u..v for e's time window.
+  module _ (u v : ℤ) where
+    pub late-agree : (y : ℕ) → y < E .events → late E W u v y ≡ late F X u v y
+    late-agree y l = ap₂ (λ p h. not (eqb y (E .subject)) && left-out p h) (place-agree u v y l) (a y l h-max)
+
+    pub early-agree : (y : ℕ) → y < E .events → early E W u v y ≡ early F X u v y
+    early-agree y l = ap₂ (λ p h. not (eqb y (E .subject)) && surely-consumed p h) (place-agree u v y l) (a y l h-max)
+
+    pub cites-agree : (top : Bool) (dropped : ℕ → Bool) (z : ℕ) → z < E .events → (k : End) → cites E W u v top dropped z k ≡ cites F X u v top dropped z k
+    cites-agree top dropped z l k =
+        let all-early = any-agree (E .events) (early E W u v) (early F X u v) early-agree in
+        let all-late = any-agree (E .events) (late E W u v) (late F X u v) late-agree in
+        elim k [
+          | t-min ↦ simp (all-early, late-agree z l)
+          | t-max ↦ simp (all-late, early-agree z l)
+          | h-min ↦ refl
+          | h-max ↦ simp (place-agree u v z l, a z l h-max)
+        ]
+
+    pub says-agree : (z : ℕ) → z < E .events → (k : End) → says E W u v z k ≡ says F X u v z k
+    says-agree z l t-min = ap (λ b. cond (eqb z (E .subject)) u (first-late b v)) (same z l)
+    says-agree z l t-max = ap (λ b. cond (eqb z (E .subject)) v (last-early b u)) (same z l)
+    says-agree z l h-min = a z l h-min
+    says-agree z l h-max = a z l h-max
+
+-- On standing windows a job's view may tell deliveries by the amounts at hand.
+pub before-here : (j : Job) (m b : Bool) {W : Windows} → Standing j W → (e y : ℕ) → y < events j → view j m b e .before y ≡ (b || (not m && counts-later (j .reservoir) (W y h-max)))
+before-here j m b {W} std e y l =
+    ap (λ p. b || (not m && (eqZ (j .reservoir .cover) (pos 0) && p))) (sym (kind-kept j W (std .within) (std .heights) y l))
+
+module _ (j : Job) (m b : Bool) (e : ℕ) (W : Windows) where
+  abbrev pub at-hand : View
+  at-hand = view-of (events j) (j .reservoir) (λ y. W y h-max) m b e
+
+  module _ (std : Standing j W) where
+    pub rule-at-hand : e < events j → (f : Family) (y : ℕ) → y < events j → family-rule f (view j m b e) (seen j m e W) y ≡ family-rule f at-hand (seen j m e W) y
+    rule-at-hand =
+        family-rule-agree (view j m b e) (at-hand .before) (before-here j m b std e) (seen j m e W) (seen j m e W) (λ z l k. refl)
+
+    pub cites-at-hand : (f : Family) (y : ℕ) (x : Effect) (z : ℕ) → z < events j → (k : End) → family-cites f (view j m b e) (seen j m e W) y x z k ≡ family-cites f at-hand (seen j m e W) y x z k
+    cites-at-hand f y x =
+        cites-agree (view j m b e) (at-hand .before) (before-here j m b std e) (seen j m e W) (seen j m e W) (λ z l k. refl) (e-min at-hand (seen j m e W)) (latest f (e-max at-hand (seen j m e W)) x) (quotes-top f) (drops f x y)
+
+    pub says-at-hand : (f : Family) (x : Effect) (z : ℕ) → z < events j → (k : End) → family-says f (view j m b e) (seen j m e W) x z k ≡ family-says f at-hand (seen j m e W) x z k
+    says-at-hand f x =
+        says-agree (view j m b e) (at-hand .before) (before-here j m b std e) (seen j m e W) (seen j m e W) (λ z l k. refl) (e-min at-hand (seen j m e W)) (latest f (e-max at-hand (seen j m e W)) x)
 
 pub premise-list-agree : (n : ℕ) (c d : ℕ → End → Bool) (v w : ℕ → End → ℤ) → ((z : ℕ) → z < n → (k : End) → c z k ≡ d z k) → ((z : ℕ) → z < n → (k : End) → v z k ≡ w z k) → premise-list n c v ≡ premise-list n d w
 unfolding premise-list
@@ -134,7 +163,7 @@ module _ (j : Job) (W X : Windows) (a : Agree (events j) W X) where
   finding-agree sane lag-lower g y l m = ap (λ t. bound (t -ℤ lag-d j g)) (a (lag-a j g) (sane .lag g l .real-a) t-min)
   finding-agree sane (reservoir m b f) e y l k =
       ap (side-finding m (family-end f))
-      (family-rule-agree (view j m b e) (seen j m e W) (seen j m e X) (seen-agree j m e (events j) W X a) l f y k)
+      (family-rule-agree (view j m b e) (view j m b e .before) (λ y l. refl) (seen j m e W) (seen j m e X) (seen-agree j m e (events j) W X a) l f y k)
 
   -- The effect of an attempt.
   pub outcome-agree : Sane j → (r : Rule) (e y : ℕ) → e < subjects r j → y < events j → effect (own-end r) W y (finding r j W e y) ≡ effect (own-end r) X y (finding r j X e y)
@@ -148,7 +177,7 @@ module _ (j : Job) (W X : Windows) (a : Agree (events j) W X) where
   quotes-agree (reservoir o b f) e y x l z m k =
       let E = view j o b e in
       let A = seen-agree j o e (events j) W X a in
-      cites-agree E (seen j o e W) (seen j o e X) A (e-min E (seen j o e W)) (latest f (e-max E (seen j o e W)) x) (quotes-top f) (drops f x y) z m (side-end o k)
+      cites-agree E (E .before) (λ y l. refl) (seen j o e W) (seen j o e X) A (e-min E (seen j o e W)) (latest f (e-max E (seen j o e W)) x) (quotes-top f) (drops f x y) z m (side-end o k)
       ∙ ap₂ (λ u v. cites E (seen j o e X) u (latest f v x) (quotes-top f) (drops f x y) z (side-end o k)) (A e l t-min) (A e l t-max)
 
   pub quoted-agree : (r : Rule) (e y : ℕ) (x : Effect) → e < subjects r j → (z : ℕ) → z < events j → (k : End) → quoted r j W e y x z k ≡ quoted r j X e y x z k
@@ -159,7 +188,7 @@ module _ (j : Job) (W X : Windows) (a : Agree (events j) W X) where
       let E = view j o b e in
       let A = seen-agree j o e (events j) W X a in
       ap (side-value o k)
-      (says-agree E (seen j o e W) (seen j o e X) A (e-min E (seen j o e W)) (latest f (e-max E (seen j o e W)) x) z m (side-end o k)
+      (says-agree E (E .before) (λ y l. refl) (seen j o e W) (seen j o e X) A (e-min E (seen j o e W)) (latest f (e-max E (seen j o e W)) x) z m (side-end o k)
       ∙ ap₂ (λ u v. says E (seen j o e X) u (latest f v x) z (side-end o k)) (A e l t-min) (A e l t-max))
 
   pub premises-agree : (r : Rule) (e y : ℕ) (x : Effect) → e < subjects r j → premise-list (events j) (quotes r j W e y x) (quoted r j W e y x) ≡ premise-list (events j) (quotes r j X e y x) (quoted r j X e y x)

@@ -1,8 +1,8 @@
--- Document 01's cases with P (K1 to K10): one listing of inputs and expected words, K1's text and what is printed of it too, one statement that the definitions give them, proved by computation.
+-- The papers' cases with P (document 01: K1 to K10; document 02: cover): one listing of inputs and expected words, K1's text and what is printed of it too, one statement that the definitions give them, proved by computation.
 -- Assumes nothing.
 use mathlib.Core.Path.{_≡_, refl}
 use mathlib.Core.List.{List, [], _∷_}
-use Prim.Native.Nat.{ℕ}
+use Prim.Native.Nat.{ℕ, zero, suc}
 use Prim.Native.String.{String}
 use lib.IntN.{ℤ, pos, negℤ}
 use lib.ListN.{take, length}
@@ -21,52 +21,52 @@ use Rattle.model.specs.Text.{bytes, digits-value, numbers-behind, job-of
 use Rattle.model.specs.Print.{last-digits, numeral, integer, line-of, event-lines}
 use Rattle.model.specs.Program.{slip-room, program}
 
+-- ---- a case
+
 pub data Call : Type 0 where
   planner reader : Call
 
 pub record Case : Type 0 where
   pub call : Call
-  pub horizon : ℤ
-  pub low : ℤ
-  pub high : ℤ
-  pub opening : ℤ
-  pub table : List ℤ
-  pub lags : List ℤ
+  pub job : Job
   pub buffer : List ℤ
   pub reply : Reply
   pub table-left : List ℤ
   pub buffer-left : List ℤ
-  -- the words that document 01 prints of the list, from its first word on
+  -- the words that the papers print of the list, from its first word on
   pub printed : List ℤ
-
-abbrev pub neg : ℕ → ℤ
-neg n = negℤ (pos n)
-
-abbrev pub called : Case → Job
-called c = job (c .horizon) (c .low) (c .high) (c .opening) (c .table) (c .lags)
 
 abbrev pub outcome : Case → Outcome
 outcome c = go (c .call)
   where
     go : Call → Outcome
-    go planner = plan (called c) (c .buffer)
-    go reader = check (called c) (c .buffer)
+    go planner = plan (c .job) (c .buffer)
+    go reader = check (c .job) (c .buffer)
 
 abbrev pub expected : Case → Outcome
 expected c = record { reply = c .reply; table = c .table-left; buffer = c .buffer-left }
+
+-- A word below 0; words that a buffer held before.
+abbrev pub neg : ℕ → ℤ
+neg n = negℤ (pos n)
+
+abbrev pub blank : ℕ → List ℤ
+blank zero = []
+blank (suc n) = pos 77 ∷ blank n
+
+-- "H 100, Lmin 0, Lmax 10, no lags unless said", cover 1: Q, the window table, the lag table.
+abbrev pub standard : ℤ → List ℤ → List ℤ → Job
+standard q table lags = job (pos 100) (pos 0) (pos 10) q (pos 1) table lags
+
+-- ---- the cases
 
 -- K1: Q 0; 5..40 / 6..6; 0..30 / −4..−4: settled 1 2. Words after the trailer keep what they held.
 abbrev pub k1 : Case
 k1 =
     record {
       call = planner;
-      horizon = pos 100;
-      low = pos 0;
-      high = pos 10;
-      opening = pos 0;
-      table = pos 5 ∷ pos 40 ∷ pos 6 ∷ pos 6 ∷ pos 0 ∷ pos 30 ∷ neg 4 ∷ neg 4 ∷ [];
-      lags = [];
-      buffer = pos 77 ∷ pos 77 ∷ pos 77 ∷ pos 77 ∷ pos 77 ∷ pos 77 ∷ pos 77 ∷ pos 77 ∷ pos 77 ∷ pos 77 ∷ pos 77 ∷ pos 77 ∷ pos 77 ∷ pos 77 ∷ pos 77 ∷ pos 77 ∷ pos 77 ∷ pos 77 ∷ [];
+      job = standard (pos 0) (pos 5 ∷ pos 40 ∷ pos 6 ∷ pos 6 ∷ pos 0 ∷ pos 30 ∷ neg 4 ∷ neg 4 ∷ []) [];
+      buffer = blank 18;
       reply = done settled 1 2 16;
       table-left = pos 5 ∷ pos 40 ∷ pos 6 ∷ pos 6 ∷ pos 5 ∷ pos 30 ∷ neg 4 ∷ neg 4 ∷ [];
       buffer-left = pos 10 ∷ pos 1 ∷ pos 1 ∷ pos 1 ∷ pos 5 ∷ pos 2 ∷ pos 0 ∷ pos 1 ∷ pos 5 ∷ pos 1 ∷ pos 4 ∷ neg 4 ∷ pos 13 ∷ pos 1 ∷ pos 0 ∷ pos 4207 ∷ pos 77 ∷ pos 77 ∷ [];
@@ -78,16 +78,11 @@ abbrev pub k2 : Case
 k2 =
     record {
       call = planner;
-      horizon = pos 100;
-      low = pos 0;
-      high = pos 10;
-      opening = pos 0;
-      table = pos 5 ∷ pos 40 ∷ pos 6 ∷ pos 6 ∷ pos 0 ∷ pos 30 ∷ neg 4 ∷ neg 4 ∷ [];
-      lags = [];
-      buffer = pos 77 ∷ pos 77 ∷ pos 77 ∷ pos 77 ∷ pos 77 ∷ pos 77 ∷ pos 77 ∷ pos 77 ∷ pos 77 ∷ pos 77 ∷ pos 77 ∷ pos 77 ∷ pos 77 ∷ pos 77 ∷ pos 77 ∷ [];
+      job = standard (pos 0) (pos 5 ∷ pos 40 ∷ pos 6 ∷ pos 6 ∷ pos 0 ∷ pos 30 ∷ neg 4 ∷ neg 4 ∷ []) [];
+      buffer = blank 15;
       reply = done stopped 0 1 3;
       table-left = pos 5 ∷ pos 40 ∷ pos 6 ∷ pos 6 ∷ pos 0 ∷ pos 30 ∷ neg 4 ∷ neg 4 ∷ [];
-      buffer-left = pos 0 ∷ pos 0 ∷ pos 4207 ∷ pos 77 ∷ pos 77 ∷ pos 77 ∷ pos 77 ∷ pos 77 ∷ pos 77 ∷ pos 77 ∷ pos 77 ∷ pos 77 ∷ pos 77 ∷ pos 77 ∷ pos 77 ∷ [];
+      buffer-left = pos 0 ∷ pos 0 ∷ pos 4207 ∷ blank 12;
       printed = pos 0 ∷ pos 0 ∷ pos 4207 ∷ [];
     }
 
@@ -96,13 +91,8 @@ abbrev pub k3 : Case
 k3 =
     record {
       call = planner;
-      horizon = pos 100;
-      low = pos 0;
-      high = pos 10;
-      opening = pos 0;
-      table = [];
-      lags = [];
-      buffer = pos 77 ∷ pos 77 ∷ pos 77 ∷ [];
+      job = standard (pos 0) [] [];
+      buffer = blank 3;
       reply = done settled 0 1 3;
       table-left = [];
       buffer-left = pos 0 ∷ pos 0 ∷ pos 4207 ∷ [];
@@ -114,16 +104,11 @@ abbrev pub k4 : Case
 k4 =
     record {
       call = planner;
-      horizon = pos 100;
-      low = pos 0;
-      high = pos 10;
-      opening = pos 3;
-      table = pos 0 ∷ pos 30 ∷ neg 4 ∷ neg 4 ∷ [];
-      lags = [];
-      buffer = pos 77 ∷ pos 77 ∷ pos 77 ∷ pos 77 ∷ pos 77 ∷ pos 77 ∷ pos 77 ∷ pos 77 ∷ pos 77 ∷ pos 77 ∷ pos 77 ∷ pos 77 ∷ pos 77 ∷ pos 77 ∷ pos 77 ∷ pos 77 ∷ [];
+      job = standard (pos 3) (pos 0 ∷ pos 30 ∷ neg 4 ∷ neg 4 ∷ []) [];
+      buffer = blank 16;
       reply = done conflict 1 1 13;
       table-left = pos 0 ∷ pos 30 ∷ neg 4 ∷ neg 4 ∷ [];
-      buffer-left = pos 9 ∷ pos 0 ∷ pos 0 ∷ pos 0 ∷ pos 0 ∷ pos 1 ∷ pos 0 ∷ pos 4 ∷ neg 4 ∷ pos 10 ∷ pos 1 ∷ pos 0 ∷ pos 4207 ∷ pos 77 ∷ pos 77 ∷ pos 77 ∷ [];
+      buffer-left = pos 9 ∷ pos 0 ∷ pos 0 ∷ pos 0 ∷ pos 0 ∷ pos 1 ∷ pos 0 ∷ pos 4 ∷ neg 4 ∷ pos 10 ∷ pos 1 ∷ pos 0 ∷ pos 4207 ∷ blank 3;
       printed = pos 9 ∷ pos 0 ∷ pos 0 ∷ pos 0 ∷ pos 0 ∷ pos 1 ∷ pos 0 ∷ pos 4 ∷ neg 4 ∷ pos 10 ∷ [];
     }
 
@@ -132,16 +117,11 @@ abbrev pub k4-settled : Case
 k4-settled =
     record {
       call = planner;
-      horizon = pos 100;
-      low = pos 0;
-      high = pos 10;
-      opening = pos 4;
-      table = pos 0 ∷ pos 30 ∷ neg 4 ∷ neg 4 ∷ [];
-      lags = [];
-      buffer = pos 77 ∷ pos 77 ∷ pos 77 ∷ pos 77 ∷ pos 77 ∷ pos 77 ∷ pos 77 ∷ pos 77 ∷ pos 77 ∷ pos 77 ∷ pos 77 ∷ pos 77 ∷ pos 77 ∷ pos 77 ∷ pos 77 ∷ pos 77 ∷ [];
+      job = standard (pos 4) (pos 0 ∷ pos 30 ∷ neg 4 ∷ neg 4 ∷ []) [];
+      buffer = blank 16;
       reply = done settled 0 1 3;
       table-left = pos 0 ∷ pos 30 ∷ neg 4 ∷ neg 4 ∷ [];
-      buffer-left = pos 0 ∷ pos 0 ∷ pos 4207 ∷ pos 77 ∷ pos 77 ∷ pos 77 ∷ pos 77 ∷ pos 77 ∷ pos 77 ∷ pos 77 ∷ pos 77 ∷ pos 77 ∷ pos 77 ∷ pos 77 ∷ pos 77 ∷ pos 77 ∷ [];
+      buffer-left = pos 0 ∷ pos 0 ∷ pos 4207 ∷ blank 13;
       printed = [];
     }
 
@@ -150,16 +130,11 @@ abbrev pub k5 : Case
 k5 =
     record {
       call = planner;
-      horizon = pos 100;
-      low = pos 0;
-      high = pos 10;
-      opening = pos 5;
-      table = pos 0 ∷ pos 30 ∷ neg 9 ∷ neg 2 ∷ [];
-      lags = [];
-      buffer = pos 77 ∷ pos 77 ∷ pos 77 ∷ pos 77 ∷ pos 77 ∷ pos 77 ∷ pos 77 ∷ pos 77 ∷ pos 77 ∷ pos 77 ∷ pos 77 ∷ pos 77 ∷ pos 77 ∷ pos 77 ∷ pos 77 ∷ pos 77 ∷ [];
+      job = standard (pos 5) (pos 0 ∷ pos 30 ∷ neg 9 ∷ neg 2 ∷ []) [];
+      buffer = blank 16;
       reply = done settled 1 2 10;
       table-left = pos 0 ∷ pos 30 ∷ neg 5 ∷ neg 2 ∷ [];
-      buffer-left = pos 11 ∷ pos 0 ∷ pos 0 ∷ pos 3 ∷ neg 5 ∷ pos 0 ∷ pos 7 ∷ pos 1 ∷ pos 0 ∷ pos 4207 ∷ pos 77 ∷ pos 77 ∷ pos 77 ∷ pos 77 ∷ pos 77 ∷ pos 77 ∷ [];
+      buffer-left = pos 11 ∷ pos 0 ∷ pos 0 ∷ pos 3 ∷ neg 5 ∷ pos 0 ∷ pos 7 ∷ pos 1 ∷ pos 0 ∷ pos 4207 ∷ blank 6;
       printed = pos 11 ∷ pos 0 ∷ pos 0 ∷ pos 3 ∷ neg 5 ∷ pos 0 ∷ pos 7 ∷ [];
     }
 
@@ -168,16 +143,11 @@ abbrev pub k6 : Case
 k6 =
     record {
       call = planner;
-      horizon = pos 100;
-      low = pos 0;
-      high = pos 10;
-      opening = pos 0;
-      table = pos 0 ∷ pos 30 ∷ pos 7 ∷ pos 20 ∷ [];
-      lags = [];
-      buffer = pos 77 ∷ pos 77 ∷ pos 77 ∷ pos 77 ∷ pos 77 ∷ pos 77 ∷ pos 77 ∷ pos 77 ∷ pos 77 ∷ pos 77 ∷ pos 77 ∷ pos 77 ∷ pos 77 ∷ pos 77 ∷ pos 77 ∷ pos 77 ∷ [];
+      job = standard (pos 0) (pos 0 ∷ pos 30 ∷ pos 7 ∷ pos 20 ∷ []) [];
+      buffer = blank 16;
       reply = done settled 1 2 10;
       table-left = pos 0 ∷ pos 30 ∷ pos 7 ∷ pos 10 ∷ [];
-      buffer-left = pos 14 ∷ pos 0 ∷ pos 0 ∷ pos 4 ∷ pos 10 ∷ pos 0 ∷ pos 7 ∷ pos 1 ∷ pos 0 ∷ pos 4207 ∷ pos 77 ∷ pos 77 ∷ pos 77 ∷ pos 77 ∷ pos 77 ∷ pos 77 ∷ [];
+      buffer-left = pos 14 ∷ pos 0 ∷ pos 0 ∷ pos 4 ∷ pos 10 ∷ pos 0 ∷ pos 7 ∷ pos 1 ∷ pos 0 ∷ pos 4207 ∷ blank 6;
       printed = pos 14 ∷ pos 0 ∷ pos 0 ∷ pos 4 ∷ pos 10 ∷ pos 0 ∷ pos 7 ∷ [];
     }
 
@@ -186,16 +156,11 @@ abbrev pub k6-conflict : Case
 k6-conflict =
     record {
       call = planner;
-      horizon = pos 100;
-      low = pos 0;
-      high = pos 10;
-      opening = pos 0;
-      table = pos 0 ∷ pos 30 ∷ pos 11 ∷ pos 20 ∷ [];
-      lags = [];
-      buffer = pos 77 ∷ pos 77 ∷ pos 77 ∷ pos 77 ∷ pos 77 ∷ pos 77 ∷ pos 77 ∷ pos 77 ∷ pos 77 ∷ pos 77 ∷ pos 77 ∷ pos 77 ∷ pos 77 ∷ pos 77 ∷ pos 77 ∷ pos 77 ∷ [];
+      job = standard (pos 0) (pos 0 ∷ pos 30 ∷ pos 11 ∷ pos 20 ∷ []) [];
+      buffer = blank 16;
       reply = done conflict 1 1 13;
       table-left = pos 0 ∷ pos 30 ∷ pos 11 ∷ pos 20 ∷ [];
-      buffer-left = pos 12 ∷ pos 0 ∷ pos 0 ∷ pos 0 ∷ pos 0 ∷ pos 1 ∷ pos 0 ∷ pos 3 ∷ pos 11 ∷ pos 10 ∷ pos 1 ∷ pos 0 ∷ pos 4207 ∷ pos 77 ∷ pos 77 ∷ pos 77 ∷ [];
+      buffer-left = pos 12 ∷ pos 0 ∷ pos 0 ∷ pos 0 ∷ pos 0 ∷ pos 1 ∷ pos 0 ∷ pos 3 ∷ pos 11 ∷ pos 10 ∷ pos 1 ∷ pos 0 ∷ pos 4207 ∷ blank 3;
       printed = pos 12 ∷ pos 0 ∷ pos 0 ∷ pos 0 ∷ pos 0 ∷ pos 1 ∷ pos 0 ∷ pos 3 ∷ pos 11 ∷ pos 10 ∷ [];
     }
 
@@ -204,16 +169,11 @@ abbrev pub k7 : Case
 k7 =
     record {
       call = planner;
-      horizon = pos 100;
-      low = pos 0;
-      high = pos 10;
-      opening = pos 0;
-      table = pos 7 ∷ pos 7 ∷ pos 6 ∷ pos 6 ∷ pos 7 ∷ pos 7 ∷ neg 4 ∷ neg 4 ∷ [];
-      lags = [];
-      buffer = pos 77 ∷ pos 77 ∷ pos 77 ∷ pos 77 ∷ pos 77 ∷ pos 77 ∷ pos 77 ∷ pos 77 ∷ pos 77 ∷ pos 77 ∷ pos 77 ∷ pos 77 ∷ pos 77 ∷ pos 77 ∷ pos 77 ∷ pos 77 ∷ [];
+      job = standard (pos 0) (pos 7 ∷ pos 7 ∷ pos 6 ∷ pos 6 ∷ pos 7 ∷ pos 7 ∷ neg 4 ∷ neg 4 ∷ []) [];
+      buffer = blank 16;
       reply = done settled 0 1 3;
       table-left = pos 7 ∷ pos 7 ∷ pos 6 ∷ pos 6 ∷ pos 7 ∷ pos 7 ∷ neg 4 ∷ neg 4 ∷ [];
-      buffer-left = pos 0 ∷ pos 0 ∷ pos 4207 ∷ pos 77 ∷ pos 77 ∷ pos 77 ∷ pos 77 ∷ pos 77 ∷ pos 77 ∷ pos 77 ∷ pos 77 ∷ pos 77 ∷ pos 77 ∷ pos 77 ∷ pos 77 ∷ pos 77 ∷ [];
+      buffer-left = pos 0 ∷ pos 0 ∷ pos 4207 ∷ blank 13;
       printed = [];
     }
 
@@ -222,13 +182,8 @@ abbrev pub k8 : Case
 k8 =
     record {
       call = planner;
-      horizon = pos 100;
-      low = pos 0;
-      high = pos 10;
-      opening = pos 0;
-      table = pos 0 ∷ pos 10 ∷ pos 0 ∷ pos 0 ∷ pos 0 ∷ pos 6 ∷ pos 0 ∷ pos 0 ∷ [];
-      lags = pos 0 ∷ pos 1 ∷ neg 2 ∷ [];
-      buffer = pos 77 ∷ pos 77 ∷ pos 77 ∷ pos 77 ∷ pos 77 ∷ pos 77 ∷ pos 77 ∷ pos 77 ∷ pos 77 ∷ pos 77 ∷ pos 77 ∷ pos 77 ∷ pos 77 ∷ pos 77 ∷ pos 77 ∷ pos 77 ∷ pos 77 ∷ pos 77 ∷ pos 77 ∷ pos 77 ∷ pos 77 ∷ pos 77 ∷ pos 77 ∷ pos 77 ∷ [];
+      job = standard (pos 0) (pos 0 ∷ pos 10 ∷ pos 0 ∷ pos 0 ∷ pos 0 ∷ pos 6 ∷ pos 0 ∷ pos 0 ∷ []) (pos 0 ∷ pos 1 ∷ neg 2 ∷ []);
+      buffer = blank 24;
       reply = done settled 2 2 23;
       table-left = pos 0 ∷ pos 4 ∷ pos 0 ∷ pos 0 ∷ pos 2 ∷ pos 6 ∷ pos 0 ∷ pos 0 ∷ [];
       buffer-left = pos 1 ∷ pos 0 ∷ pos 0 ∷ pos 2 ∷ pos 4 ∷ pos 1 ∷ pos 1 ∷ pos 2 ∷ pos 6 ∷ pos 10 ∷ pos 2 ∷ pos 0 ∷ pos 1 ∷ pos 1 ∷ pos 2 ∷ pos 1 ∷ pos 0 ∷ pos 1 ∷ pos 0 ∷ pos 10 ∷ pos 2 ∷ pos 10 ∷ pos 4207 ∷ pos 77 ∷ [];
@@ -240,12 +195,7 @@ abbrev pub k1-read : Case
 k1-read =
     record {
       call = reader;
-      horizon = pos 100;
-      low = pos 0;
-      high = pos 10;
-      opening = pos 0;
-      table = pos 5 ∷ pos 40 ∷ pos 6 ∷ pos 6 ∷ pos 0 ∷ pos 30 ∷ neg 4 ∷ neg 4 ∷ [];
-      lags = [];
+      job = standard (pos 0) (pos 5 ∷ pos 40 ∷ pos 6 ∷ pos 6 ∷ pos 0 ∷ pos 30 ∷ neg 4 ∷ neg 4 ∷ []) [];
       buffer = pos 10 ∷ pos 1 ∷ pos 1 ∷ pos 1 ∷ pos 5 ∷ pos 2 ∷ pos 0 ∷ pos 1 ∷ pos 5 ∷ pos 1 ∷ pos 4 ∷ neg 4 ∷ pos 13 ∷ pos 1 ∷ pos 0 ∷ pos 4207 ∷ [];
       reply = done still-open 0 0 0;
       table-left = pos 5 ∷ pos 40 ∷ pos 6 ∷ pos 6 ∷ pos 5 ∷ pos 30 ∷ neg 4 ∷ neg 4 ∷ [];
@@ -258,12 +208,7 @@ abbrev pub k9-strict : Case
 k9-strict =
     record {
       call = reader;
-      horizon = pos 100;
-      low = pos 0;
-      high = pos 10;
-      opening = pos 0;
-      table = pos 5 ∷ pos 40 ∷ pos 6 ∷ pos 6 ∷ pos 0 ∷ pos 30 ∷ neg 4 ∷ neg 4 ∷ [];
-      lags = [];
+      job = standard (pos 0) (pos 5 ∷ pos 40 ∷ pos 6 ∷ pos 6 ∷ pos 0 ∷ pos 30 ∷ neg 4 ∷ neg 4 ∷ []) [];
       buffer = pos 10 ∷ pos 1 ∷ pos 1 ∷ pos 1 ∷ pos 6 ∷ pos 2 ∷ pos 0 ∷ pos 1 ∷ pos 5 ∷ pos 1 ∷ pos 4 ∷ neg 4 ∷ pos 13 ∷ pos 1 ∷ pos 0 ∷ pos 4207 ∷ [];
       reply = refused 16 0;
       table-left = pos 5 ∷ pos 40 ∷ pos 6 ∷ pos 6 ∷ pos 0 ∷ pos 30 ∷ neg 4 ∷ neg 4 ∷ [];
@@ -276,12 +221,7 @@ abbrev pub k9-weak : Case
 k9-weak =
     record {
       call = reader;
-      horizon = pos 100;
-      low = pos 0;
-      high = pos 10;
-      opening = pos 0;
-      table = pos 5 ∷ pos 40 ∷ pos 6 ∷ pos 6 ∷ pos 0 ∷ pos 30 ∷ neg 4 ∷ neg 4 ∷ [];
-      lags = [];
+      job = standard (pos 0) (pos 5 ∷ pos 40 ∷ pos 6 ∷ pos 6 ∷ pos 0 ∷ pos 30 ∷ neg 4 ∷ neg 4 ∷ []) [];
       buffer = pos 10 ∷ pos 1 ∷ pos 1 ∷ pos 1 ∷ pos 4 ∷ pos 2 ∷ pos 0 ∷ pos 1 ∷ pos 5 ∷ pos 1 ∷ pos 4 ∷ neg 4 ∷ pos 13 ∷ pos 1 ∷ pos 0 ∷ pos 4207 ∷ [];
       reply = done still-open 0 0 0;
       table-left = pos 5 ∷ pos 40 ∷ pos 6 ∷ pos 6 ∷ pos 4 ∷ pos 30 ∷ neg 4 ∷ neg 4 ∷ [];
@@ -294,12 +234,7 @@ abbrev pub k9-false : Case
 k9-false =
     record {
       call = reader;
-      horizon = pos 100;
-      low = pos 0;
-      high = pos 10;
-      opening = pos 0;
-      table = pos 5 ∷ pos 40 ∷ pos 6 ∷ pos 6 ∷ pos 0 ∷ pos 30 ∷ neg 4 ∷ neg 4 ∷ [];
-      lags = [];
+      job = standard (pos 0) (pos 5 ∷ pos 40 ∷ pos 6 ∷ pos 6 ∷ pos 0 ∷ pos 30 ∷ neg 4 ∷ neg 4 ∷ []) [];
       buffer = pos 10 ∷ pos 1 ∷ pos 1 ∷ pos 1 ∷ pos 5 ∷ pos 2 ∷ pos 0 ∷ pos 1 ∷ pos 6 ∷ pos 1 ∷ pos 4 ∷ neg 4 ∷ pos 13 ∷ pos 1 ∷ pos 0 ∷ pos 4207 ∷ [];
       reply = refused 15 0;
       table-left = pos 5 ∷ pos 40 ∷ pos 6 ∷ pos 6 ∷ pos 0 ∷ pos 30 ∷ neg 4 ∷ neg 4 ∷ [];
@@ -312,16 +247,11 @@ abbrev pub k10-horizon : Case
 k10-horizon =
     record {
       call = planner;
-      horizon = pos 20001;
-      low = pos 0;
-      high = pos 10;
-      opening = pos 11;
-      table = pos 5 ∷ pos 40 ∷ pos 6 ∷ pos 6 ∷ pos 0 ∷ pos 30 ∷ neg 4 ∷ neg 4 ∷ [];
-      lags = [];
-      buffer = pos 77 ∷ pos 77 ∷ pos 77 ∷ pos 77 ∷ pos 77 ∷ pos 77 ∷ pos 77 ∷ pos 77 ∷ pos 77 ∷ pos 77 ∷ pos 77 ∷ pos 77 ∷ pos 77 ∷ pos 77 ∷ pos 77 ∷ pos 77 ∷ [];
+      job = job (pos 20001) (pos 0) (pos 10) (pos 11) (pos 1) (pos 5 ∷ pos 40 ∷ pos 6 ∷ pos 6 ∷ pos 0 ∷ pos 30 ∷ neg 4 ∷ neg 4 ∷ []) [];
+      buffer = blank 16;
       reply = refused 1 0;
       table-left = pos 5 ∷ pos 40 ∷ pos 6 ∷ pos 6 ∷ pos 0 ∷ pos 30 ∷ neg 4 ∷ neg 4 ∷ [];
-      buffer-left = pos 77 ∷ pos 77 ∷ pos 77 ∷ pos 77 ∷ pos 77 ∷ pos 77 ∷ pos 77 ∷ pos 77 ∷ pos 77 ∷ pos 77 ∷ pos 77 ∷ pos 77 ∷ pos 77 ∷ pos 77 ∷ pos 77 ∷ pos 77 ∷ [];
+      buffer-left = blank 16;
       printed = [];
     }
 
@@ -330,16 +260,11 @@ abbrev pub k10-stock : Case
 k10-stock =
     record {
       call = planner;
-      horizon = pos 20000;
-      low = pos 0;
-      high = pos 10;
-      opening = pos 11;
-      table = pos 5 ∷ pos 40 ∷ pos 6 ∷ pos 6 ∷ pos 0 ∷ pos 30 ∷ neg 4 ∷ neg 4 ∷ [];
-      lags = [];
-      buffer = pos 77 ∷ pos 77 ∷ pos 77 ∷ pos 77 ∷ pos 77 ∷ pos 77 ∷ pos 77 ∷ pos 77 ∷ pos 77 ∷ pos 77 ∷ pos 77 ∷ pos 77 ∷ pos 77 ∷ pos 77 ∷ pos 77 ∷ pos 77 ∷ [];
+      job = job (pos 20000) (pos 0) (pos 10) (pos 11) (pos 1) (pos 5 ∷ pos 40 ∷ pos 6 ∷ pos 6 ∷ pos 0 ∷ pos 30 ∷ neg 4 ∷ neg 4 ∷ []) [];
+      buffer = blank 16;
       reply = refused 3 0;
       table-left = pos 5 ∷ pos 40 ∷ pos 6 ∷ pos 6 ∷ pos 0 ∷ pos 30 ∷ neg 4 ∷ neg 4 ∷ [];
-      buffer-left = pos 77 ∷ pos 77 ∷ pos 77 ∷ pos 77 ∷ pos 77 ∷ pos 77 ∷ pos 77 ∷ pos 77 ∷ pos 77 ∷ pos 77 ∷ pos 77 ∷ pos 77 ∷ pos 77 ∷ pos 77 ∷ pos 77 ∷ pos 77 ∷ [];
+      buffer-left = blank 16;
       printed = [];
     }
 
@@ -348,127 +273,140 @@ abbrev pub k10-order : Case
 k10-order =
     record {
       call = planner;
-      horizon = pos 100;
-      low = pos 0;
-      high = pos 10;
-      opening = pos 0;
-      table = pos 0 ∷ pos 30 ∷ neg 1 ∷ pos 1 ∷ pos 5 ∷ pos 4 ∷ pos 1 ∷ pos 1 ∷ [];
-      lags = [];
-      buffer = pos 77 ∷ pos 77 ∷ pos 77 ∷ pos 77 ∷ pos 77 ∷ pos 77 ∷ pos 77 ∷ pos 77 ∷ pos 77 ∷ pos 77 ∷ pos 77 ∷ pos 77 ∷ pos 77 ∷ pos 77 ∷ pos 77 ∷ pos 77 ∷ [];
+      job = standard (pos 0) (pos 0 ∷ pos 30 ∷ neg 1 ∷ pos 1 ∷ pos 5 ∷ pos 4 ∷ pos 1 ∷ pos 1 ∷ []) [];
+      buffer = blank 16;
       reply = refused 5 1;
       table-left = pos 0 ∷ pos 30 ∷ neg 1 ∷ pos 1 ∷ pos 5 ∷ pos 4 ∷ pos 1 ∷ pos 1 ∷ [];
-      buffer-left = pos 77 ∷ pos 77 ∷ pos 77 ∷ pos 77 ∷ pos 77 ∷ pos 77 ∷ pos 77 ∷ pos 77 ∷ pos 77 ∷ pos 77 ∷ pos 77 ∷ pos 77 ∷ pos 77 ∷ pos 77 ∷ pos 77 ∷ pos 77 ∷ [];
+      buffer-left = blank 16;
       printed = [];
     }
 
--- A call with its words; or a text that the program is given, and what it prints.
-pub data Entry : Type 0 where
-  call : Case → Entry
-  text : String → String → Entry
+-- K1 under cover 0: the pull waits a minute longer.
+abbrev pub k1-later : Case
+k1-later =
+    record {
+      call = planner;
+      job = job (pos 100) (pos 0) (pos 10) (pos 0) (pos 0) (pos 5 ∷ pos 40 ∷ pos 6 ∷ pos 6 ∷ pos 0 ∷ pos 30 ∷ neg 4 ∷ neg 4 ∷ []) [];
+      buffer = blank 18;
+      reply = done settled 1 2 16;
+      table-left = pos 5 ∷ pos 40 ∷ pos 6 ∷ pos 6 ∷ pos 6 ∷ pos 30 ∷ neg 4 ∷ neg 4 ∷ [];
+      buffer-left = pos 10 ∷ pos 1 ∷ pos 1 ∷ pos 1 ∷ pos 6 ∷ pos 2 ∷ pos 0 ∷ pos 1 ∷ pos 5 ∷ pos 1 ∷ pos 4 ∷ neg 4 ∷ pos 13 ∷ pos 1 ∷ pos 0 ∷ pos 4207 ∷ pos 77 ∷ pos 77 ∷ [];
+      printed = pos 10 ∷ pos 1 ∷ pos 1 ∷ pos 1 ∷ pos 6 ∷ pos 2 ∷ pos 0 ∷ pos 1 ∷ pos 5 ∷ pos 1 ∷ pos 4 ∷ neg 4 ∷ pos 13 ∷ [];
+    }
 
--- The listing.
-abbrev pub cases : List Entry
-cases =
-    call k1
-    ∷ text "100 0 10 0 2 0\n5 40 6 6\n0 30 -4 -4\n" "settled 1 2\n0 5 40 6 6\n1 5 30 -4 -4\n"
-    ∷ call k2
-    ∷ call k3
-    ∷ call k4
-    ∷ call k4-settled
-    ∷ call k5
-    ∷ call k6
-    ∷ call k6-conflict
-    ∷ call k7
-    ∷ call k8
-    ∷ call k1-read
-    ∷ call k9-strict
-    ∷ call k9-weak
-    ∷ call k9-false
-    ∷ call k10-horizon
-    ∷ call k10-stock
-    ∷ call k10-order
-    ∷ []
+-- K7 under cover 0: conflict.
+abbrev pub k7-later : Case
+k7-later =
+    record {
+      call = planner;
+      job = job (pos 100) (pos 0) (pos 10) (pos 0) (pos 0) (pos 7 ∷ pos 7 ∷ pos 6 ∷ pos 6 ∷ pos 7 ∷ pos 7 ∷ neg 4 ∷ neg 4 ∷ []) [];
+      buffer = blank 22;
+      reply = done conflict 1 1 19;
+      table-left = pos 7 ∷ pos 7 ∷ pos 6 ∷ pos 6 ∷ pos 7 ∷ pos 7 ∷ neg 4 ∷ neg 4 ∷ [];
+      buffer-left = pos 9 ∷ pos 0 ∷ pos 0 ∷ pos 0 ∷ pos 0 ∷ pos 3 ∷ pos 0 ∷ pos 1 ∷ pos 7 ∷ pos 1 ∷ pos 2 ∷ pos 7 ∷ pos 1 ∷ pos 4 ∷ neg 4 ∷ pos 16 ∷ pos 1 ∷ pos 0 ∷ pos 4207 ∷ blank 3;
+      printed = pos 9 ∷ pos 0 ∷ pos 0 ∷ pos 0 ∷ pos 0 ∷ pos 3 ∷ pos 0 ∷ pos 1 ∷ pos 7 ∷ pos 1 ∷ pos 2 ∷ pos 7 ∷ pos 1 ∷ pos 4 ∷ neg 4 ∷ pos 16 ∷ [];
+    }
 
--- The definitions give each case's words, all of them, and the words that document 01 prints are among them.
-abbrev pub Right : List Entry → Type 0
-Right [] = Unit {0}
-Right (call c ∷ cs) =
-    (outcome c ≡ expected c)
-    × (take (length (c .printed)) (c .buffer-left) ≡ c .printed)
-    × Right cs
-Right (text given prints ∷ cs) = (program (bytes given) ≡ bytes prints) × Right cs
+-- Cover 2: 22.
+abbrev pub cover-refused : Case
+cover-refused =
+    record {
+      call = planner;
+      job = job (pos 100) (pos 0) (pos 10) (pos 0) (pos 2) (pos 7 ∷ pos 7 ∷ pos 6 ∷ pos 6 ∷ pos 7 ∷ pos 7 ∷ neg 4 ∷ neg 4 ∷ []) [];
+      buffer = blank 16;
+      reply = refused 22 0;
+      table-left = pos 7 ∷ pos 7 ∷ pos 6 ∷ pos 6 ∷ pos 7 ∷ pos 7 ∷ neg 4 ∷ neg 4 ∷ [];
+      buffer-left = blank 16;
+      printed = [];
+    }
 
-pub all-right : Right cases
+-- Cover 2 and Q 11: 3, which is asked first.
+abbrev pub cover-last : Case
+cover-last =
+    record {
+      call = reader;
+      job = job (pos 100) (pos 0) (pos 10) (pos 11) (pos 2) [] [];
+      buffer = blank 3;
+      reply = refused 3 0;
+      table-left = [];
+      buffer-left = blank 3;
+      printed = [];
+    }
+
+-- Cover 2 and no whole event: 22, which is asked before 4.
+abbrev pub cover-first : Case
+cover-first =
+    record {
+      call = reader;
+      job = job (pos 100) (pos 0) (pos 10) (pos 0) (pos 2) (pos 7 ∷ []) [];
+      buffer = blank 3;
+      reply = refused 22 0;
+      table-left = pos 7 ∷ [];
+      buffer-left = blank 3;
+      printed = [];
+    }
+
+-- The program is given this text, and prints that one.
+abbrev pub Prints : String → String → Type 0
+Prints given prints = program (bytes given) ≡ bytes prints
+
+-- The listing, and the one statement about it: the definitions give each case's words, all of them, and the words that the papers print are among them.
+abbrev pub Right : Case → Type 0
+Right c =
+    _≡_ {A = Outcome × List ℤ} (outcome c, take (length (c .printed)) (c .buffer-left)) (expected c, c .printed)
+
+pub record Cases : Type 0 where
+  pub k1-right : Right k1
+  pub k1-text : Prints "100 0 10 0 1 2 0\n5 40 6 6\n0 30 -4 -4\n" "settled 1 2\n0 5 40 6 6\n1 5 30 -4 -4\n"
+  pub k2-right : Right k2
+  pub k3-right : Right k3
+  pub k4-right : Right k4
+  pub k4-settled-right : Right k4-settled
+  pub k5-right : Right k5
+  pub k6-right : Right k6
+  pub k6-conflict-right : Right k6-conflict
+  pub k7-right : Right k7
+  pub k8-right : Right k8
+  pub k1-read-right : Right k1-read
+  pub k9-strict-right : Right k9-strict
+  pub k9-weak-right : Right k9-weak
+  pub k9-false-right : Right k9-false
+  pub k10-horizon-right : Right k10-horizon
+  pub k10-stock-right : Right k10-stock
+  pub k10-order-right : Right k10-order
+  pub k1-later-right : Right k1-later
+  pub k1-later-text : Prints "100 0 10 0 0 2 0\n5 40 6 6\n0 30 -4 -4\n" "settled 1 2\n0 5 40 6 6\n1 6 30 -4 -4\n"
+  pub k7-later-right : Right k7-later
+  pub cover-refused-right : Right cover-refused
+  pub cover-last-right : Right cover-last
+  pub cover-first-right : Right cover-first
+
+pub all-right : Cases
 unfolding plan check questions own-questions each run made agenda each-of attempt acted premise-list slip-words premise-words quotes quoted any finding earliest sure-part most-in sum windows premises-at whole slip-at reading premises-fit names all-true narrowed gives slip-questions read-from read-all job-text numbers-behind digits-value job-of slip-room event-lines line-of integer numeral last-digits
-all-right = (
-  refl, {- k1 -}
-  refl,
-  (
-    refl, {- K1's text -}
-    (
-      refl, {- k2 -}
-      refl,
-      (
-        refl, {- k3 -}
-        refl,
-        (
-          refl, {- k4 -}
-          refl,
-          (
-            refl, {- k4-settled -}
-            refl,
-            (
-              refl, {- k5 -}
-              refl,
-              (
-                refl, {- k6 -}
-                refl,
-                (
-                  refl, {- k6-conflict -}
-                  refl,
-                  (
-                    refl, {- k7 -}
-                    refl,
-                    (
-                      refl, {- k8 -}
-                      refl,
-                      (
-                        refl, {- k1-read -}
-                        refl,
-                        (
-                          refl, {- k9-strict -}
-                          refl,
-                          (
-                            refl, {- k9-weak -}
-                            refl,
-                            (
-                              refl, {- k9-false -}
-                              refl,
-                              (
-                                refl, {- k10-horizon -}
-                                refl,
-                                (
-                                  refl, {- k10-stock -}
-                                  refl,
-                                  (
-                                    refl, {- k10-order -}
-                                    refl,
-                                    tt,
-                                  ),
-                                ),
-                              ),
-                            ),
-                          ),
-                        ),
-                      ),
-                    ),
-                  ),
-                ),
-              ),
-            ),
-          ),
-        ),
-      ),
-    ),
-  ),
-)
+all-right =
+    record {
+      k1-right = refl;
+      k1-text = refl;
+      k2-right = refl;
+      k3-right = refl;
+      k4-right = refl;
+      k4-settled-right = refl;
+      k5-right = refl;
+      k6-right = refl;
+      k6-conflict-right = refl;
+      k7-right = refl;
+      k8-right = refl;
+      k1-read-right = refl;
+      k9-strict-right = refl;
+      k9-weak-right = refl;
+      k9-false-right = refl;
+      k10-horizon-right = refl;
+      k10-stock-right = refl;
+      k10-order-right = refl;
+      k1-later-right = refl;
+      k1-later-text = refl;
+      k7-later-right = refl;
+      cover-refused-right = refl;
+      cover-last-right = refl;
+      cover-first-right = refl;
+    }

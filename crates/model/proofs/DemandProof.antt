@@ -27,7 +27,6 @@ use Rattle.model.proofs.Written.{replayed, conflicting-after}
 use Rattle.model.proofs.Reading.{three-more, count-is}
 use Rattle.model.proofs.Accepted.{AllPassed, ReadOut, read-out, slips-from-length, all-kept}
 use Rattle.model.proofs.Sound.{named, Concludes, legal-in, stands-alone}
-use Rattle.model.proofs.Levels.{Signed, signed-within}
 use Rattle.model.proofs.Refusals.{not-done, check-refused, check-judged, plan-takes, planner-refuses, reader-refuses}
 use Rattle.model.proofs.Replay.{complete}
 
@@ -173,8 +172,8 @@ module _ (j : Job) (list : List ℤ) (v : Verdict) (a : Accepting j list v) wher
       let tail = trailer-there list (last-begins 0 0 xs) (given .room-low) (a .marks) (last ∙ ap pos (out .last-there)) in
       out .words ∙ ap (λ (w : List ℤ). log-words xs ++ w) (ap (λ (i : ℕ). drop i list) there ∙ tail ∙ ap (λ (n : ℕ). trailer n (last-begins 0 0 xs)) (sym (slips-from-length list (natAbs (counted list)) 0)))
 
-  signs : Signed (events j) wide
-  signs = signed-within (inside-refl (events j) wide)
+  signs : Inside (events j) (widest j) wide
+  signs = inside-refl (events j) wide
 
   opened : (p : Schedule) → Legal j (sent j) p → Legal j wide p
   opened p l = legal-in l (inside-trans (given .standing .within) (l .within))

@@ -15,7 +15,7 @@ use Rattle.integers.proofs.Linear.{ints}
 use Rattle.integers.proofs.Tests.{and-out, and-in, or-out}
 use Rattle.model.specs.Job.{End, t-min, t-max, h-min, h-max, meets, widest, produces, consumes, Job, lags, lag-word, events, sent, windows}
 use Rattle.model.specs.Standing.{Sane, Standing, SaneCage, SaneLag}
-use Rattle.model.specs.Questions.{Check, pass, refuse, ask, each, in-range, is-event, times-right, heights-right, lag-events, lag-differs, lag-in-range, limit-in-range, questions, _then_, horizon-right, limits-right, stock-right, events-whole, lags-whole, room-right, own-questions, cage-questions, window-questions, lag-questions}
+use Rattle.model.specs.Questions.{Check, pass, refuse, ask, each, in-range, is-event, times-right, heights-right, lag-events, lag-differs, lag-in-range, limit-in-range, questions, _then_, horizon-right, limits-right, stock-right, events-whole, lags-whole, room-right, own-questions, cage-questions, window-questions, lag-questions, cover-right}
 use Rattle.model.proofs.Order.{event-below}
 
 -- ---- checks
@@ -152,6 +152,7 @@ record Answers (j : Job) : Type 0 where
   q1 : T (horizon-right (j .horizon))
   q2 : T (limits-right (j .reservoir))
   q3 : T (stock-right (j .reservoir))
+  q22 : T (cover-right (j .reservoir))
   q4 : T (events-whole (j .window-table))
   q5 : (y : ℕ) → y < events j → T (times-right (j .horizon) (sent j) y)
   q6 : (y : ℕ) → y < events j → T (heights-right (sent j) y)
@@ -172,7 +173,8 @@ answers j e =
     let g1 = then-out (cage-questions h c) _ e in
     let g2 = then-out (window-questions h table) (lag-questions n ws) (g1 .1) in
     let a1 = then-out (ask 1 (horizon-right h)) _ (g1 .0) in
-    let a2 = then-out (ask 2 (limits-right c)) (ask 3 (stock-right c)) (a1 .1) in
+    let a2 = then-out (ask 2 (limits-right c)) _ (a1 .1) in
+    let a3 = then-out (ask 3 (stock-right c)) (ask 22 (cover-right c)) (a2 .1) in
     let a4 = then-out (ask 4 (events-whole table)) _ (g2 .0) in
     let a5 = then-out (each 5 (times-right h (windows table)) 0 n) (each 6 (heights-right (windows table)) 0 n) (a4 .1) in
     let a7 = then-out (ask 7 (lags-whole ws)) _ (g2 .1) in
@@ -181,7 +183,8 @@ answers j e =
     record {
       q1 = ask-out 1 (horizon-right h) (a1 .0);
       q2 = ask-out 2 (limits-right c) (a2 .0);
-      q3 = ask-out 3 (stock-right c) (a2 .1);
+      q3 = ask-out 3 (stock-right c) (a3 .0);
+      q22 = ask-out 22 (cover-right c) (a3 .1);
       q4 = ask-out 4 (events-whole table) (a4 .0);
       q5 = all-out 5 (times-right h (windows table)) n (a5 .0);
       q6 = all-out 6 (heights-right (windows table)) n (a5 .1);

@@ -9,9 +9,10 @@ use lib.IntN.{ℤ, pos, negℤ, negℤ-+ℤ, _+ℤ_, _-ℤ_}
 use lib.Signed.{leZ, ltZ, _≤ℤ_, _<ℤ_}
 use Rattle.integers.specs.Sum.{sum}
 use Rattle.integers.proofs.Linear.{ints, add-law, sub-law, neg-law}
-use Rattle.integers.proofs.Sums.{sum-ext, sum-neg, sum-le-but}
+use Rattle.integers.proofs.Sums.{sum-ext, sum-neg, sum-le, sum-le-but}
+use Rattle.integers.specs.Range.{eqZ}
 use Rattle.integers.proofs.Tests.{same-test, true-is}
-use Rattle.model.specs.Job.{End, t-min, t-max, h-min, h-max, opposite, meets, Windows, Job, Schedule, value, Inside, stock, Legal, lag-a, lag-b, lag-d, events, ahead}
+use Rattle.model.specs.Job.{End, t-min, t-max, h-min, h-max, opposite, meets, Windows, Job, Schedule, value, Inside, stock, Legal, lag-a, lag-b, lag-d, events, ahead, counts-later, produces, widest}
 use Rattle.model.specs.Standing.{Sane}
 use Rattle.model.specs.View.{side-end, View, view, seen, side-value, side-limit}
 use Rattle.model.specs.Levels.{placed, place, gain, gains, most-in, most, e-min, e-max, stands}
@@ -20,8 +21,8 @@ use Rattle.model.specs.Slips.{Explanation, rule-of, subject-of, target-o
 use Rattle.model.specs.Questions.{is-event}
 use Rattle.model.specs.Reader.{kind-fits, premises-fit, names, all-true, narrowed, is-conflict, as-strict, gives}
 use Rattle.model.proofs.Effects.{aims, fits-aims, across}
-use Rattle.model.proofs.Order.{meets-trans, opposite-meets, event-below, narrowed-in, inside-narrowed}
-use Rattle.model.proofs.Levels.{not-lt, ahead-self, Wider, place-weaker, gains-weaker, most-weaker, target-gain, target-adds, Signed, signed-inside}
+use Rattle.model.proofs.Order.{meets-trans, opposite-meets, event-below, narrowed-in, inside-narrowed, inside-trans}
+use Rattle.model.proofs.Levels.{not-lt, ahead-self, Wider, place-weaker, gains-weaker, most-weaker, target-gain, target-adds, Signed, signed-within, add-le, kind-kept}
 use Rattle.model.proofs.Sides.{Point, seen-point, seen-inside, seen-signed}
 use Rattle.model.proofs.Time.{Waits, Timed, timed}
 
@@ -38,17 +39,13 @@ adds E x t y = cond (ahead (E .before y) (x y t-min) t) (x y h-max) (pos 0)
 abbrev pub Low : View → Windows → Type 0
 Low E x = (t : ℤ) → E .limit ≤ℤ stock-at E x t
 
--- The stock before (true) or by (false) a moment.
-unfoldable stock-of : (ℕ → Bool) → Job → Schedule → ℤ → ℤ
-stock-of s j p t = j .reservoir .initial +ℤ sum (events j) (λ y. cond (ahead (s y) (p .time y) t) (p .height y) (pos 0))
-
 cond-neg : (b : Bool) (h : ℤ) → cond b (negℤ h) (pos 0) ≡ negℤ (cond b h (pos 0))
 cond-neg true h = refl
 cond-neg false h = refl
 
 -- In the mirror it is turned.
-seen-stock : (j : Job) (m b : Bool) (e : ℕ) (p : Schedule) (t : ℤ) → stock-at (view j m b e) (seen j m e (value p)) t ≡ side-value m h-max (stock-of (view j m b e .before) j p t)
-unfolding stock-at stock-of
+seen-stock : (j : Job) (m b : Bool) (e : ℕ) (p : Schedule) (t : ℤ) → stock-at (view j m b e) (seen j m e (value p)) t ≡ side-value m h-max (stock (view j m b e .before) j p t)
+unfolding stock-at stock
 seen-stock j false b e p t = refl
 seen-stock j true b e p t =
     let f : ℕ → ℤ = λ y. cond (ahead (view j true b e .before y) (p .time y) t) (p .height y) (pos 0) in
@@ -57,26 +54,62 @@ seen-stock j true b e p t =
     ∙ sum-neg (events j) f)
     ∙ sym (negℤ-+ℤ (j .reservoir .initial) (sum (events j) f))
 
--- By a moment it is the stock; before a moment it is the stock a minute earlier.
+-- Before a moment is by the minute before it.
 before-is : (a t : ℤ) → ltZ a t ≡ leZ a (t -ℤ pos 1)
 before-is a t = same-test (ltZ a t) (leZ a (t -ℤ pos 1)) (λ h. omega (ints, sub-law t (pos 1))) (λ h. omega (ints, sub-law t (pos 1)))
 
-stock-when : (b : Bool) (j : Job) (p : Schedule) (t : ℤ) → (u : ℤ) × (stock-of (λ y. b) j p t ≡ stock j p u)
-unfolding stock-of stock
-stock-when false j p t = (t, refl)
-stock-when true j p t = (
-  t -ℤ pos 1,
-  ap (λ x. j .reservoir .initial +ℤ x)
-      (sum-ext (events j) (λ y. cond (ltZ (p .time y) t) (p .height y) (pos 0)) (λ y. cond (leZ (p .time y) (t -ℤ pos 1)) (p .height y) (pos 0)) (λ y l. ap (λ b. cond b (p .height y) (pos 0)) (before-is (p .time y) t))),
-)
+stock-before : (j : Job) (p : Schedule) (t : ℤ) → stock (λ y. true) j p t ≡ stock (λ y. false) j p (t -ℤ pos 1)
+unfolding stock
+stock-before j p t =
+    ap (λ x. j .reservoir .initial +ℤ x)
+    (sum-ext (events j) (λ y. cond (ltZ (p .time y) t) (p .height y) (pos 0)) (λ y. cond (leZ (p .time y) (t -ℤ pos 1)) (p .height y) (pos 0)) (λ y l. ap (λ b. cond b (p .height y) (pos 0)) (before-is (p .time y) t)))
 
--- A legal schedule keeps the limit of every view.
-pub legal-low : (m b : Bool) {j : Job} {W : Windows} {p : Schedule} (e : ℕ) → Legal j W p → Low (view j m b e) (seen j m e (value p))
-legal-low m b {j} {W} {p} e h t = rw (seen-stock j m b e p t) (go m (stock-when b j p t))
+stock-same : (s r : ℕ → Bool) (j : Job) (p : Schedule) (t : ℤ) → ((y : ℕ) → y < events j → s y ≡ r y) → stock s j p t ≡ stock r j p t
+unfolding stock
+stock-same s r j p t h =
+    ap (λ x. j .reservoir .initial +ℤ x)
+    (sum-ext (events j) (λ y. cond (ahead (s y) (p .time y) t) (p .height y) (pos 0)) (λ y. cond (ahead (r y) (p .time y) t) (p .height y) (pos 0)) (λ y l. ap (λ b. cond (ahead b (p .time y) t) (p .height y) (pos 0)) (h y l)))
+
+-- Where only deliveries count later, no more counts than strictly before.
+later-adds : (b : Bool) (h a t : ℤ) → produces h ≡ b → cond (ahead b a t) h (pos 0) ≤ℤ cond (ltZ a t) h (pos 0)
+later-adds true h a t e = omega ints
+later-adds false h a t e = go (leZ a t) (ltZ a t) (λ q. omega ints)
   where
-    go : (m : Bool) → (u : ℤ) × (stock-of (λ y. b) j p t ≡ stock j p u) → side-limit m (j .reservoir) ≤ℤ side-value m h-max (stock-of (λ y. b) j p t)
-    go false w = let a = h .above-min (w .0) in let c = w .1 in omega ints
-    go true w = let a = h .below-max (w .0) in let c = w .1 in omega (ints, neg-law (stock-of (λ y. b) j p t), neg-law (j .reservoir .max-level))
+    go : (x y : Bool) → (T y → T x) → cond x h (pos 0) ≤ℤ cond y h (pos 0)
+    go true true q = omega ints
+    go true false q = omega ints
+    go false true q = absurd (q tt)
+    go false false q = omega ints
+
+deliveries-later : (j : Job) (p : Schedule) (t : ℤ) → stock (λ y. produces (p .height y)) j p t ≤ℤ stock (λ y. true) j p t
+unfolding stock
+deliveries-later j p t =
+    add-le (j .reservoir .initial) _ _
+    (sum-le (events j) (λ y. cond (ahead (produces (p .height y)) (p .time y) t) (p .height y) (pos 0)) (λ y. cond (ltZ (p .time y) t) (p .height y) (pos 0)) (λ y l. later-adds (produces (p .height y)) (p .height y) (p .time y) t refl))
+
+-- The low limit by cover holds before every moment as well.
+low-before : (j : Job) (p : Schedule) → ((m : ℤ) → j .reservoir .min-level ≤ℤ stock (λ y. counts-later (j .reservoir) (p .height y)) j p m) → (t : ℤ) → j .reservoir .min-level ≤ℤ stock (λ y. true) j p t
+low-before j p h t = go (eqZ (j .reservoir .cover) (pos 0)) h
+  where
+    go : (c : Bool) → ((m : ℤ) → j .reservoir .min-level ≤ℤ stock (λ y. c && produces (p .height y)) j p m) → j .reservoir .min-level ≤ℤ stock (λ y. true) j p t
+    go true f = let a = f t in let b = deliveries-later j p t in omega ints
+    go false f = let a = f (t -ℤ pos 1) in let b = stock-before j p t in omega ints
+
+-- A legal schedule in the widest windows keeps the limit of every view.
+pub legal-low : (m b : Bool) {j : Job} {W : Windows} {p : Schedule} (e : ℕ) → Inside (events j) (widest j) (value p) → Legal j W p → Low (view j m b e) (seen j m e (value p))
+legal-low m b {j} {W} {p} e wide h t = rw (seen-stock j m b e p t) (go m b)
+  where
+    high : (u : ℤ) → negℤ (j .reservoir .max-level) ≤ℤ negℤ (stock (λ y. false) j p u)
+    high u = let a = h .below-max u in omega (ints, neg-law (stock (λ y. false) j p u), neg-law (j .reservoir .max-level))
+
+    go : (m b : Bool) → side-limit m (j .reservoir) ≤ℤ side-value m h-max (stock (view j m b e .before) j p t)
+    go false true = low-before j p (h .above-min) t
+    go false false =
+        let a = h .above-min t in
+        let c = stock-same (view j false false e .before) (λ y. counts-later (j .reservoir) (p .height y)) j p t (λ y l. ap (λ b. eqZ (j .reservoir .cover) (pos 0) && b) (sym (kind-kept j (value p) wide (λ y l. omega ints) y l))) in
+        omega ints
+    go true true = rw (stock-before j p t) (high (t -ℤ pos 1))
+    go true false = high t
 
 -- ---- the level of a schedule
 
@@ -180,8 +213,8 @@ holds-seen j m e k x y nothing h = tt
 holds-seen j m e k x y clash h = h
 holds-seen j m e k x y (bound v) h = subst T (sym (across m k v (x y (side-end m k)))) h
 
--- What a rule gives on windows holds of every legal schedule in them. (Where a window had two signs, rules 5 and 11 would not be sound: hence `Signed`.)
-pub finding-sound : (r : Rule) (j : Job) (W : Windows) (p : Schedule) (e y : ℕ) → Sane j → Signed (events j) W → Legal j W p → e < subjects r j → y < events j → T (target-fits r j e y) → Holds (value p) (own-end r) y (finding r j W e y)
+-- What a rule gives on windows holds of every legal schedule in them. (Where a window had two signs, rules 5 and 11 would not be sound, and cover would not tell deliveries: hence inside the widest.)
+pub finding-sound : (r : Rule) (j : Job) (W : Windows) (p : Schedule) (e y : ℕ) → Sane j → Inside (events j) (widest j) W → Legal j W p → e < subjects r j → y < events j → T (target-fits r j e y) → Holds (value p) (own-end r) y (finding r j W e y)
 unfolding finding
 finding-sound lag-upper j W p g y sane signs h l m t =
     let a = h .lagged g l in
@@ -195,7 +228,7 @@ finding-sound lag-lower j W p g y sane signs h l m t =
     rw (eqb→eq y (lag-b j g) t) d
 finding-sound (reservoir m b f) j W p e y sane signs h l k t =
     holds-seen j m e (family-end f) (value p) y (family-rule f (view j m b e) (seen j m e W) y)
-    (family-sound (view j m b e) (seen j m e W) (seen-point j m e p) (seen-inside j m e (h .within)) (legal-low m b e h) l (seen-signed j m e signs) f y k (fits-aims m b f j e y t))
+    (family-sound (view j m b e) (seen j m e W) (seen-point j m e p) (seen-inside j m e (h .within)) (legal-low m b e (inside-trans signs (h .within)) h) l (seen-signed j m e (signed-within signs)) f y k (fits-aims m b f j e y t))
 
 -- ---- effects
 
@@ -262,7 +295,7 @@ abbrev pub Concludes : Schedule → Explanation → Type 0
 Concludes p x = concludes (is-conflict x) p x
 
 -- A slip whose rule gives its conclusion on windows: every legal schedule in them has it.
-pub gives-sound : (j : Job) (X : Windows) (p : Schedule) (x : Explanation) → Sane j → Signed (events j) X → Legal j X p → T (names j x) → T (gives j X x) → Concludes p x
+pub gives-sound : (j : Job) (X : Windows) (p : Schedule) (x : Explanation) → Sane j → Inside (events j) (widest j) X → Legal j X p → T (names j x) → T (gives j X x) → Concludes p x
 unfolding gives
 gives-sound j X p x sane signs h n t = go (is-conflict x) t
   where
@@ -300,10 +333,10 @@ pub legal-in : {j : Job} {W X : Windows} {p : Schedule} → Legal j W p → Insi
 legal-in h i = record { within = i; lagged = h .lagged; above-min = h .above-min; below-max = h .below-max }
 
 -- A slip stands alone: every schedule that is legal in windows, and has its facts, has its conclusion if its rule gives it on the windows narrowed by these facts.
-pub stands-alone : (j : Job) (W : Windows) (p : Schedule) (x : Explanation) → Sane j → Signed (events j) W → Legal j W p → T (names j x) → T (all-true (value p) (x .premises)) → T (gives j (narrowed W (x .premises)) x) → Concludes p x
+pub stands-alone : (j : Job) (W : Windows) (p : Schedule) (x : Explanation) → Sane j → Inside (events j) (widest j) W → Legal j W p → T (names j x) → T (all-true (value p) (x .premises)) → T (gives j (narrowed W (x .premises)) x) → Concludes p x
 stands-alone j W p x sane signs h n t g =
     gives-sound j (narrowed W (x .premises)) p x sane
-    (signed-inside (narrowed-in (events j) W (x .premises)) signs)
+    (inside-trans signs (narrowed-in (events j) W (x .premises)))
     (legal-in h (inside-narrowed (h .within) (x .premises) t))
     n
     g

@@ -25,10 +25,10 @@ pub record Example : Type 0 where
 abbrev pub examples : List Example
 examples =
     -- K8 of document 01, with its lag
-    record { text = "100 0 10 0 2 1\n0 10 0 0\n0 6 0 0\n0 1 -2"; says = parsed (job (pos 100) (pos 0) (pos 10) (pos 0) (pos 0 ∷ pos 10 ∷ pos 0 ∷ pos 0 ∷ pos 0 ∷ pos 6 ∷ pos 0 ∷ pos 0 ∷ []) (pos 0 ∷ pos 1 ∷ neg 2 ∷ [])) }
+    record { text = "100 0 10 0 1 2 1\n0 10 0 0\n0 6 0 0\n0 1 -2"; says = parsed (job (pos 100) (pos 0) (pos 10) (pos 0) (pos 1) (pos 0 ∷ pos 10 ∷ pos 0 ∷ pos 0 ∷ pos 0 ∷ pos 6 ∷ pos 0 ∷ pos 0 ∷ []) (pos 0 ∷ pos 1 ∷ neg 2 ∷ [])) }
     -- blanks, tabs and line ends in any number; leading zeros and "-0"; both ends of 32 bits
-    ∷ record { text = " \t\r\n007 -0  2147483647\t-2147483648\r\n00 -00 \n"; says = parsed (job (pos 7) (pos 0) (pos 2147483647) (neg 2147483648) [] []) }
-    ∷ record { text = "0000000000000000000000000000000000000001 0 0 0 0 0"; says = parsed (job (pos 1) (pos 0) (pos 0) (pos 0) [] []) }
+    ∷ record { text = " \t\r\n007 -0  2147483647\t-2147483648\r\n00 00 -00 \n"; says = parsed (job (pos 7) (pos 0) (pos 2147483647) (neg 2147483648) (pos 0) [] []) }
+    ∷ record { text = "0000000000000000000000000000000000000001 0 0 0 2 0 0"; says = parsed (job (pos 1) (pos 0) (pos 0) (pos 0) (pos 2) [] []) }
     ∷ []
 
 pub examples-right : map (λ (x : Example). said (x .text)) examples ≡ map (λ (x : Example). x .says) examples
@@ -38,25 +38,25 @@ examples-right = refl
 abbrev pub malformed-texts : List String
 malformed-texts =
     -- outside 32 bits
-    "2147483648 0 0 0 0 0"
-    ∷ "-2147483649 0 0 0 0 0"
-    ∷ "99999999999999999999999999 0 0 0 0 0"
+    "2147483648 0 0 0 0 0 0"
+    ∷ "-2147483649 0 0 0 0 0 0"
+    ∷ "99999999999999999999999999 0 0 0 0 0 0"
     -- otherwise formed
     ∷ ""
-    ∷ "+5 0 0 0 0 0"
-    ∷ "5- 0 0 0 0 0"
-    ∷ "--5 0 0 0 0 0"
-    ∷ "- 5 0 0 0 0 0"
-    ∷ "0 0 0 0 0 0 -"
-    ∷ "1.0 0 0 0 0 0"
-    ∷ "5,0 0 0 0 0 0"
+    ∷ "+5 0 0 0 0 0 0"
+    ∷ "5- 0 0 0 0 0 0"
+    ∷ "--5 0 0 0 0 0 0"
+    ∷ "- 5 0 0 0 0 0 0"
+    ∷ "0 0 0 0 0 0 0 -"
+    ∷ "1.0 0 0 0 0 0 0"
+    ∷ "5,0 0 0 0 0 0 0"
     -- too few, too many, n and m out of range
-    ∷ "0 0 0 0 0"
-    ∷ "0 0 0 0 0 0 0"
-    ∷ "0 0 0 0 1 0 1 1 1"
-    ∷ "0 0 0 0 -1 0"
-    ∷ "0 0 0 0 65 0"
-    ∷ "0 0 0 0 0 257"
+    ∷ "0 0 0 0 0 0"
+    ∷ "0 0 0 0 0 0 0 0"
+    ∷ "0 0 0 0 0 1 0 1 1 1"
+    ∷ "0 0 0 0 0 -1 0"
+    ∷ "0 0 0 0 0 65 0"
+    ∷ "0 0 0 0 0 0 257"
     ∷ []
 
 pub malformed-right : map said malformed-texts ≡ map (λ (text : String). malformed) malformed-texts

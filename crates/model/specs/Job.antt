@@ -1,6 +1,6 @@
 -- Document 01, "The job": events and their windows, the job, schedules (day plans) and which of them are legal; "Tables": the window table and the lag table as words.
 -- Read this first: everything else in specs/ speaks of it.
-use mathlib.Core.Bool.{Bool, true, false, cond}
+use mathlib.Core.Bool.{Bool, true, false, cond, _&&_}
 use mathlib.Core.List.{List}
 use Prim.Native.Nat.{ℕ, _+_, _*_, _/_, _<_}
 use lib.Dec.{T}
@@ -8,6 +8,7 @@ use lib.IntN.{ℤ, pos, negsuc, natAbs, _+ℤ_, _-ℤ_}
 use lib.ListN.{getD, length}
 use lib.Signed.{leZ, ltZ, _≤ℤ_}
 use Rattle.integers.specs.Sum.{sum}
+use Rattle.integers.specs.Range.{eqZ}
 
 -- ---- windows
 
@@ -60,11 +61,16 @@ slot y k = 4 * y + word k
 unfoldable pub windows : List ℤ → Windows
 windows table y k = getD table (slot y k) (pos 0)
 
--- The reservoir (cage): limits Lmin and Lmax, opening stock Q.
+-- The reservoir (cage): limits Lmin and Lmax, opening stock Q, cover.
 pub record Reservoir : Type 0 where
   pub min-level : ℤ
   pub max-level : ℤ
   pub initial : ℤ
+  pub cover : ℤ
+
+-- Cover 0: goods can be pulled only from the minute after delivery, so that an event whose amount h is a delivery's counts later for the low limit. Cover 1: no event does.
+abbrev pub counts-later : Reservoir → ℤ → Bool
+counts-later c h = eqZ (c .cover) (pos 0) && produces h
 
 -- The job: the words of a call as they are sent: horizon H, the reservoir, the window table, the lag table. Every job is a call's.
 -- What a call never changes, as the number of events, is read off the job; where its windows stand is told beside it.
@@ -74,11 +80,11 @@ pub record Job : Type 0 where
   pub window-table : List ℤ
   pub lag-table : List ℤ
 
-abbrev pub job : ℤ → ℤ → ℤ → ℤ → List ℤ → List ℤ → Job
-job h low high q table lags =
+abbrev pub job : ℤ → ℤ → ℤ → ℤ → ℤ → List ℤ → List ℤ → Job
+job h low high q cover table lags =
     record {
       horizon = h;
-      reservoir = record { min-level = low; max-level = high; initial = q };
+      reservoir = record { min-level = low; max-level = high; initial = q; cover = cover };
       window-table = table;
       lag-table = lags;
     }
@@ -123,16 +129,17 @@ value p y h-max = p .height y
 pub record Inside (n : ℕ) (W x : Windows) : Type 0 where
   pub inside : (y : ℕ) → y < n → (k : End) → T (meets k (W y k) (x y k))
 
--- The stock at the moment m: Q + (sum of h(y) with t(y) ≤ m).
-unfoldable pub stock : Job → Schedule → ℤ → ℤ
-stock j p m = j .reservoir .initial +ℤ sum (events j) (λ y. cond (leZ (p .time y) m) (p .height y) (pos 0))
+-- The stock at the moment m: Q + (sum of h(y) with t(y) ≤ m), where those that count later (s) count only with t(y) < m.
+unfoldable pub stock : (ℕ → Bool) → Job → Schedule → ℤ → ℤ
+stock s j p m =
+    j .reservoir .initial +ℤ sum (events j) (λ y. cond (ahead (s y) (p .time y) m) (p .height y) (pos 0))
 
--- Legal in the windows W: inside them, all lags hold, and both limits at every whole moment, earlier than the first event too.
+-- Legal in the windows W: inside them, all lags hold, and both limits at every whole moment, earlier than the first event too. The low limit is by cover; for the high limit no event counts later.
 pub record Legal (j : Job) (W : Windows) (p : Schedule) : Type 0 where
   pub within : Inside (events j) W (value p)
   pub lagged : (g : ℕ) → g < lags j → (p .time (lag-a j g) -ℤ p .time (lag-b j g)) ≤ℤ lag-d j g
-  pub above-min : (m : ℤ) → j .reservoir .min-level ≤ℤ stock j p m
-  pub below-max : (m : ℤ) → stock j p m ≤ℤ j .reservoir .max-level
+  pub above-min : (m : ℤ) → j .reservoir .min-level ≤ℤ stock (λ y. counts-later (j .reservoir) (p .height y)) j p m
+  pub below-max : (m : ℤ) → stock (λ y. false) j p m ≤ℤ j .reservoir .max-level
 
 -- The widest windows: 0..H; 1..9,999, −9,999..−1 or 0 for a delivery, a pull or a neutral event, of which h is an amount.
 abbrev pub widest-h-min : ℤ → ℤ

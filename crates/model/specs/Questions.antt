@@ -49,6 +49,10 @@ limits-right c = limit-in-range (c .min-level) && limit-in-range (c .max-level) 
 abbrev pub stock-right : Reservoir → Bool
 stock-right c = leZ (c .min-level) (c .initial) && leZ (c .initial) (c .max-level)
 
+-- 22. Cover is 0 or 1.
+abbrev pub cover-right : Reservoir → Bool
+cover-right c = in-range (pos 0) (pos 1) (c .cover)
+
 -- 4. The window table is whole events, 0 to 64.
 abbrev pub events-whole : List ℤ → Bool
 events-whole table = eqb (length table % 4) 0 && leb (length table) 256
@@ -91,9 +95,10 @@ room-right room = leb 3 room && leb room 1000000
 
 -- ---- the questions in order; each goes to all events or lags before the next
 
--- 1 to 3, of the horizon and the cage.
+-- 1 to 3 and 22, of the horizon and the cage.
 abbrev pub cage-questions : ℤ → Reservoir → Check
-cage-questions h c = ask 1 (horizon-right h) then ask 2 (limits-right c) then ask 3 (stock-right c)
+cage-questions h c =
+    ask 1 (horizon-right h) then ask 2 (limits-right c) then ask 3 (stock-right c) then ask 22 (cover-right c)
 
 -- 4 to 6, of the window table, with the horizon.
 abbrev pub window-questions : ℤ → List ℤ → Check

@@ -104,18 +104,19 @@ abbrev pub at-end : {A : Type 0} → A → List ℤ → Parsed A
 at-end a [] = parsed a
 at-end a (z ∷ ns) = malformed
 
--- The job that numbers say: H Lmin Lmax Q n m, then n events, m lags.
+-- The job that numbers say: H Lmin Lmax Q cover n m, then n events, m lags.
 unfoldable pub job-of : List ℤ → Parsed Job
 job-of = do
   h ← next-number
   low ← next-number
   high ← next-number
   q ← next-number
+  cover ← next-number
   n ← count-to 64
   m ← count-to 256
   windows ← next-words (4 * n)
   lags ← next-words (3 * m)
-  at-end (job h low high q windows lags)
+  at-end (job h low high q cover windows lags)
 
 -- The job that a text says.
 unfoldable pub job-text : List ℕ → Parsed Job

@@ -1,8 +1,8 @@
 -- Document 01, "The fourteen rules": what a rule at an event sees. The mirror, before and by, the limit and the opening stock are all said here; levels, rules and facts read nothing else.
-use mathlib.Core.Bool.{Bool, true, false}
+use mathlib.Core.Bool.{Bool, true, false, not, _&&_, _||_}
 use Prim.Native.Nat.{ℕ}
 use lib.IntN.{ℤ, negℤ}
-use Rattle.model.specs.Job.{End, t-min, t-max, h-min, h-max, Windows, Reservoir, Job, events}
+use Rattle.model.specs.Job.{End, t-min, t-max, h-min, h-max, Windows, Reservoir, Job, events, counts-later, sent}
 
 -- ---- the mirror
 
@@ -39,19 +39,21 @@ pub record View : Type 0 where
   pub opening : ℤ
   pub before : ℕ → Bool
 
--- The view at e of a rule of side m that speaks of "before" (b true) or "by": of n events and a cage; in a job.
-abbrev pub view-of : ℕ → Reservoir → Bool → Bool → ℕ → View
-view-of n c m b e =
+-- The view at e of a rule of side m that speaks of "before" (b true) or "by": of n events, h an amount of each, and a cage.
+-- With cover 0, rules 9 to 11 take deliveries, e included, as rules 3 to 5 do.
+abbrev pub view-of : ℕ → Reservoir → (ℕ → ℤ) → Bool → Bool → ℕ → View
+view-of n c h m b e =
     record {
       subject = e;
       events = n;
       limit = side-limit m c;
       opening = side-value m h-max (c .initial);
-      before = λ y. b;
+      before = λ y. b || (not m && counts-later c (h y));
     }
 
+-- In a job: what is a delivery is read off the amounts sent in; it does not change in a call.
 abbrev pub view : Job → Bool → Bool → ℕ → View
-view j m b e = view-of (events j) (j .reservoir) m b e
+view j m b e = view-of (events j) (j .reservoir) (λ y. sent j y h-max) m b e
 
 -- The windows as a rule of side m at e sees them.
 abbrev pub seen : Job → Bool → ℕ → Windows → Windows
