@@ -18,21 +18,7 @@ pub enum ReadAnswer {
 
 /// Checks a log for a job; on acceptance the window table is left narrowed.
 /// Takes any numbers, any lengths and any words.
-pub fn read(
-    h: i32,
-    lmin: i32,
-    lmax: i32,
-    q: i32,
-    windows: &mut [i32],
-    lags: &[i32],
-    list: &[i32],
-) -> ReadAnswer {
-    let settings = Settings {
-        horizon: h,
-        lower: lmin,
-        upper: lmax,
-        opening: q,
-    };
+pub fn read(settings: Settings, windows: &mut [i32], lags: &[i32], list: &[i32]) -> ReadAnswer {
     read_within(AMOUNT_BOUND, settings, windows, lags, list)
 }
 

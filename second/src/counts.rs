@@ -6,12 +6,16 @@ use std::io::{self, Read, Write};
 use crate::answers::{run_plan, run_read};
 use crate::checker::ReadAnswer;
 use crate::explanation::CONFLICT_KIND;
-use crate::gen_jobs::slip_places;
 use crate::job::{Refusal, EVENT_WORDS, MAX_EVENTS};
 use crate::propagator::{PlanAnswer, Tally};
+use crate::raw_job::slip_places;
 use crate::stream::{Call, Record, RecordReader};
 
-const QUESTIONS: usize = 20;
+/// One more than the greatest number of a question.
+const QUESTIONS: usize = 23;
+/// The numbers of the questions of document 01 and of those added since.
+const ASKED: [std::ops::RangeInclusive<usize>; 2] = [1..=19, 22..=22];
+/// One more than the greatest number of a rule.
 const RULES: usize = 15;
 
 /// Explanations by rule number.
@@ -43,14 +47,15 @@ struct Counts {
     stopped: u64,
     plan_refused: [u64; QUESTIONS],
     plan_places: [u64; QUESTIONS],
-    plan_rules: RuleCounts,
+    /// By cover.
+    plan_rules: [RuleCounts; 2],
     most_rounds: usize,
     events: [u64; MAX_EVENTS + 1],
     open: u64,
     read_conflict: u64,
     read_refused: [u64; QUESTIONS],
     read_places: [u64; QUESTIONS],
-    read_rules: RuleCounts,
+    read_rules: [RuleCounts; 2],
     words: u64,
 }
 
@@ -62,21 +67,21 @@ impl Counts {
             stopped: 0,
             plan_refused: [0; QUESTIONS],
             plan_places: [0; QUESTIONS],
-            plan_rules: RuleCounts::default(),
+            plan_rules: [RuleCounts::default(); 2],
             most_rounds: 0,
             events: [0; MAX_EVENTS + 1],
             open: 0,
             read_conflict: 0,
             read_refused: [0; QUESTIONS],
             read_places: [0; QUESTIONS],
-            read_rules: RuleCounts::default(),
+            read_rules: [RuleCounts::default(); 2],
             words: 0,
         }
     }
 
     fn add(&mut self, record: &mut Record) {
         let tables = [&record.windows, &record.lags, &record.buffer];
-        self.words += tables.iter().map(|table| table.len() as u64).sum::<u64>() + 8;
+        self.words += tables.iter().map(|table| table.len() as u64).sum::<u64>() + 9;
         match record.call {
             Call::Plan => self.add_plan(record),
             Call::Read => self.add_read(record),
@@ -97,7 +102,7 @@ impl Counts {
         let Tally { rounds, length, .. } = tally;
         self.most_rounds = self.most_rounds.max(rounds);
         self.events[record.windows.len() / EVENT_WORDS] += 1;
-        self.plan_rules.add_list(&record.buffer[..length]);
+        self.plan_rules[record.settings.cover as usize].add_list(&record.buffer[..length]);
     }
 
     fn add_read(&mut self, record: &mut Record) {
@@ -110,7 +115,7 @@ impl Counts {
             }
         };
         *counter += 1;
-        self.read_rules.add_list(&record.buffer);
+        self.read_rules[record.settings.cover as usize].add_list(&record.buffer);
     }
 
     fn print(&self, out: &mut impl Write) -> io::Result<()> {
@@ -143,7 +148,7 @@ impl Counts {
 
     fn print_refusals(&self, out: &mut impl Write) -> io::Result<()> {
         writeln!(out, "refusal   plan  (place > 0)   read  (place > 0)")?;
-        for number in 1..QUESTIONS {
+        for number in ASKED.into_iter().flatten() {
             writeln!(
                 out,
                 "{number:>7} {:>6} {:>12} {:>6} {:>12}",
@@ -157,19 +162,22 @@ impl Counts {
     }
 
     fn print_rules(&self, out: &mut impl Write) -> io::Result<()> {
-        writeln!(
-            out,
-            "   rule   plan narrow  conflict   read narrow  conflict"
-        )?;
-        for rule in 1..RULES {
+        for cover in [1, 0] {
             writeln!(
                 out,
-                "{rule:>7} {:>13} {:>9} {:>13} {:>9}",
-                self.plan_rules.narrowing[rule],
-                self.plan_rules.conflict[rule],
-                self.read_rules.narrowing[rule],
-                self.read_rules.conflict[rule]
+                "cover {cover}: rule  plan narrow  conflict  read narrow  conflict"
             )?;
+            let (plan, read) = (&self.plan_rules[cover], &self.read_rules[cover]);
+            for rule in 1..RULES {
+                writeln!(
+                    out,
+                    "{rule:>13} {:>12} {:>9} {:>12} {:>9}",
+                    plan.narrowing[rule],
+                    plan.conflict[rule],
+                    read.narrowing[rule],
+                    read.conflict[rule]
+                )?;
+            }
         }
         Ok(())
     }

@@ -2,7 +2,8 @@
 
 use crate::explanation::{End, Premise};
 use crate::job::{Job, Window};
-use crate::rules::{Family, Order, Rule, Standing};
+use crate::rules::Rule;
+use crate::views::{Order, Standing, View};
 
 /// An explanation about to be written: which rule gave what for whom.
 #[derive(Clone, Copy, Debug)]
@@ -25,14 +26,26 @@ pub fn premises(job: &Job, windows: &[Window], finding: &Finding, out: &mut Vec<
         (Rule::LagEarliest, _) => {
             push_end(windows, job.lags[finding.subject].a, End::Earliest, out)
         }
-        (Rule::Level(family), _) => level_premises(windows, family, finding.subject, None, out),
+        (Rule::Level(family), _) => {
+            level_premises(&View::new(job, family), windows, finding.subject, None, out)
+        }
         (Rule::Share(family), _) => {
             let target = Some(finding.target);
-            level_premises(windows, family, finding.subject, target, out);
+            level_premises(
+                &View::new(job, family),
+                windows,
+                finding.subject,
+                target,
+                out,
+            );
         }
-        (Rule::Wait(family), Some(bound)) => {
-            wait_premises(windows, family, finding.subject, bound, out)
-        }
+        (Rule::Wait(family), Some(bound)) => wait_premises(
+            &View::new(job, family),
+            windows,
+            finding.subject,
+            bound,
+            out,
+        ),
         (Rule::Wait(_), None) => {}
     }
     // A bound that passes the opposite end quotes that end too.
@@ -54,56 +67,49 @@ fn push_time(event: usize, end: End, value: i64, out: &mut Vec<Premise>) {
     out.push(Premise { event, end, value });
 }
 
-/// A pull that surely counts: it is that early because e is that late.
-fn push_sure_pull_times(
-    windows: &[Window],
-    order: Order,
-    e: usize,
-    y: usize,
-    out: &mut Vec<Premise>,
-) {
-    let latest = windows[e].t_min - order.step();
-    push_time(y, End::Latest, latest, out);
+/// A pull that surely counts: its amount, and that it is that early.
+fn push_sure_pull(view: &View, windows: &[Window], e: usize, y: usize, out: &mut Vec<Premise>) {
+    push_end(windows, y, view.side.most_end(), out);
+    push_time(y, End::Latest, windows[e].t_min - view.pulls.step(), out);
 }
 
-/// In the rules with "by", e itself counts: its own amount, unless neutral.
-fn push_own_amount(windows: &[Window], family: Family, e: usize, out: &mut Vec<Premise>) {
+/// Where e itself counts, its own amount, unless it is neutral.
+fn push_own_amount(view: &View, windows: &[Window], e: usize, out: &mut Vec<Premise>) {
     let window = &windows[e];
-    let neutral = !family.side.is_delivery(window) && !family.side.is_pull(window);
-    if family.order == Order::By && !neutral {
-        push_end(windows, e, family.side.most_end(), out);
+    let neutral = !view.side.is_delivery(window) && !view.side.is_pull(window);
+    if view.order(window) == Order::By && !neutral {
+        push_end(windows, e, view.side.most_end(), out);
     }
 }
 
 /// Premises of rules 3, 6, 9, 12, and of 5, 8, 11, 14 with `target`, whose own
 /// amount is left out.
 fn level_premises(
+    view: &View,
     windows: &[Window],
-    family: Family,
     e: usize,
     target: Option<usize>,
     out: &mut Vec<Premise>,
 ) {
-    let Family { side, order } = family;
+    let side = view.side;
     let mut quotes_earliest = false;
     let mut quotes_latest = false;
     for (y, window) in windows.iter().enumerate().filter(|(y, _)| *y != e) {
-        let standing = order.standing(windows, e, y);
+        let standing = view.standing(windows, e, y);
         if side.is_delivery(window) {
             if standing == Standing::Not {
-                let earliest = windows[e].t_max + 1 - order.step();
+                let earliest = windows[e].t_max + 1 - view.deliveries.step();
                 push_time(y, End::Earliest, earliest, out);
                 quotes_latest = true;
             } else {
                 push_end(windows, y, side.most_end(), out);
             }
         } else if side.is_pull(window) && standing == Standing::Surely {
-            push_end(windows, y, side.most_end(), out);
-            push_sure_pull_times(windows, order, e, y, out);
+            push_sure_pull(view, windows, e, y, out);
             quotes_earliest = true;
         }
     }
-    push_own_amount(windows, family, e, out);
+    push_own_amount(view, windows, e, out);
     if let Some(target) = target {
         out.retain(|premise| premise.event != target || premise.end != side.most_end());
     }
@@ -111,9 +117,9 @@ fn level_premises(
 }
 
 /// Premises of rules 4, 7, 10, 13 with their bound.
-fn wait_premises(windows: &[Window], family: Family, e: usize, bound: i64, out: &mut Vec<Premise>) {
-    let Family { side, order } = family;
-    let split = bound - order.step();
+fn wait_premises(view: &View, windows: &[Window], e: usize, bound: i64, out: &mut Vec<Premise>) {
+    let side = view.side;
+    let split = bound - view.deliveries.step();
     let mut quotes_earliest = false;
     for (y, window) in windows.iter().enumerate().filter(|(y, _)| *y != e) {
         if side.is_delivery(window) {
@@ -122,13 +128,12 @@ fn wait_premises(windows: &[Window], family: Family, e: usize, bound: i64, out: 
             } else {
                 push_time(y, End::Earliest, split, out);
             }
-        } else if side.is_pull(window) && order.standing(windows, e, y) == Standing::Surely {
-            push_end(windows, y, side.most_end(), out);
-            push_sure_pull_times(windows, order, e, y, out);
+        } else if side.is_pull(window) && view.standing(windows, e, y) == Standing::Surely {
+            push_sure_pull(view, windows, e, y, out);
             quotes_earliest = true;
         }
     }
-    push_own_amount(windows, family, e, out);
+    push_own_amount(view, windows, e, out);
     push_own_times(windows, e, quotes_earliest, false, out);
 }
 

@@ -1,63 +1,12 @@
-//! Random jobs for the stream: sound ones that make most rules fire, and
-//! faulty ones that reach each refusal 1 to 11.
+//! Random sound jobs for the stream: several makes, which between them make all
+//! rules fire.
 
-use crate::explanation::{explanation_words, HEAD_WORDS, TRAILER_WORDS};
 use crate::job::{
-    Settings, AMOUNT_BOUND, EVENT_WORDS, HORIZON_BOUND, LAG_BOUND, LAG_WORDS, MAX_EVENTS, MAX_LAGS,
-    STOCK_BOUND,
+    Cover, Settings, AMOUNT_BOUND, EVENT_WORDS, HORIZON_BOUND, LAG_BOUND, LAG_WORDS, MAX_EVENTS,
+    MAX_LAGS, STOCK_BOUND,
 };
-use crate::propagator::{plan_within, PlanAnswer, Tally};
+use crate::raw_job::RawJob;
 use crate::rng::Rng;
-use crate::stream::{Call, Record};
-
-/// The most words that a record's tables have.
-pub const MOST_WINDOW_WORDS: usize = 300;
-pub const MOST_LAG_WORDS: usize = 800;
-pub const MOST_BUFFER_WORDS: usize = 20_000;
-
-/// A job as words, sound or not.
-#[derive(Clone, Debug)]
-pub struct RawJob {
-    pub settings: Settings,
-    pub windows: Vec<i32>,
-    pub lags: Vec<i32>,
-    /// The greatest amount that the job is meant for.
-    pub amount_bound: i64,
-}
-
-impl RawJob {
-    pub fn events(&self) -> usize {
-        self.windows.len() / EVENT_WORDS
-    }
-
-    /// Runs the propagator on copies of the tables: the answer and the buffer.
-    pub fn planned(&self, room: usize) -> (PlanAnswer, Vec<i32>) {
-        let mut windows = self.windows.clone();
-        let mut buffer = vec![0; room];
-        let answer = plan_within(
-            self.amount_bound,
-            self.settings,
-            &mut windows,
-            &self.lags,
-            &mut buffer,
-        );
-        (answer, buffer)
-    }
-}
-
-/// The counts of an answer that is no refusal.
-pub fn tally_of(answer: PlanAnswer) -> Option<Tally> {
-    match answer {
-        PlanAnswer::Settled(tally) | PlanAnswer::Conflict(tally) | PlanAnswer::Stopped(tally) => {
-            Some(tally)
-        }
-        PlanAnswer::Refused(_) => None,
-    }
-}
-
-// ---------------------------------------------------------------------------
-// Sound jobs
-// ---------------------------------------------------------------------------
 
 /// A sound job of one of several makes.
 pub fn sound_job(rng: &mut Rng) -> RawJob {
@@ -159,20 +108,31 @@ fn hidden_schedule(rng: &mut Rng, events: usize, horizon: i64) -> Schedule {
     schedule
 }
 
-/// The least and the greatest stock of a schedule, events of one minute netted.
-fn stock_range(schedule: &Schedule, opening: i64) -> (i64, i64) {
+/// The least and the greatest stock that the limits see in a schedule. Events
+/// of one minute are netted, yet under cover 0 its deliveries come too late for
+/// the low limit.
+fn stock_range(schedule: &Schedule, opening: i64, cover: Cover) -> (i64, i64) {
+    // By minute, and pulls before deliveries in each.
     let mut sorted = schedule.clone();
     sorted.sort_unstable();
     let (mut low, mut high, mut stock) = (opening, opening, opening);
     for (index, (minute, amount)) in sorted.iter().enumerate() {
         stock += amount;
-        let ends_minute = sorted.get(index + 1).is_none_or(|next| next.0 != *minute);
+        let next = sorted.get(index + 1);
+        let ends_minute = next.is_none_or(|next| next.0 != *minute);
         if ends_minute {
-            low = low.min(stock);
             high = high.max(stock);
+        }
+        if ends_minute || cover == Cover::NextMinute {
+            low = low.min(stock);
         }
     }
     (low, high)
+}
+
+/// One of the two covers, and its word.
+fn some_cover(rng: &mut Rng) -> (Cover, i32) {
+    rng.pick(&[(Cover::SameMinute, 1), (Cover::NextMinute, 0)])
 }
 
 /// How far a limit lies outside the schedule's stock; below 0 it cuts into it.
@@ -191,7 +151,8 @@ fn slack(rng: &mut Rng) -> i64 {
 /// Limits near the stock of a schedule, around the opening stock.
 fn settings_around(rng: &mut Rng, schedule: &Schedule, horizon: i64) -> Settings {
     let opening = opening_stock(rng);
-    let (low, high) = stock_range(schedule, opening);
+    let (cover, cover_word) = some_cover(rng);
+    let (low, high) = stock_range(schedule, opening, cover);
     let lower = (low - slack(rng)).min(opening).max(-STOCK_BOUND);
     let upper = (high + slack(rng)).max(opening).min(STOCK_BOUND);
     Settings {
@@ -199,6 +160,7 @@ fn settings_around(rng: &mut Rng, schedule: &Schedule, horizon: i64) -> Settings
         lower: lower as i32,
         upper: upper as i32,
         opening: opening as i32,
+        cover: cover_word,
     }
 }
 
@@ -293,7 +255,9 @@ fn dense(rng: &mut Rng) -> RawJob {
     let horizon = rng.within(1, 3 * events as i64 + 1);
     let schedule = hidden_schedule(rng, events, horizon);
     let mut settings = settings_around(rng, &schedule, horizon);
-    let (low, high) = stock_range(&schedule, i64::from(settings.opening));
+    let (cover, cover_word) = some_cover(rng);
+    let (low, high) = stock_range(&schedule, i64::from(settings.opening), cover);
+    settings.cover = cover_word;
     let spare = rng.within(0, 2);
     settings.lower = (low - spare).max(-STOCK_BOUND) as i32;
     settings.upper = (high + spare).min(STOCK_BOUND) as i32;
@@ -330,6 +294,7 @@ fn scattered(rng: &mut Rng) -> RawJob {
         lower: (opening - rng.within(0, 12)) as i32,
         upper: (opening + rng.within(0, 12)) as i32,
         opening: opening as i32,
+        cover: some_cover(rng).1,
     };
     let lags = lags_around(rng, &schedule);
     RawJob {
@@ -390,6 +355,7 @@ fn squeeze(rng: &mut Rng) -> RawJob {
             lower: lower as i32,
             upper: rng.pick(&[10, 30, 1_000_000]),
             opening: opening.max(lower) as i32,
+            cover: some_cover(rng).1,
         },
         windows: windows
             .into_iter()
@@ -428,6 +394,7 @@ fn brim(rng: &mut Rng) -> RawJob {
             lower: (opening - rng.pick(&near)) as i32,
             upper: (opening + rng.pick(&near)) as i32,
             opening: opening as i32,
+            cover: some_cover(rng).1,
         },
         windows,
         lags: Vec::new(),
@@ -459,6 +426,7 @@ fn ladder(rng: &mut Rng) -> RawJob {
             lower: 0,
             upper: rng.pick(&[5, 20, 1_000]),
             opening: opening as i32,
+            cover: some_cover(rng).1,
         },
         windows: windows.concat().into_iter().map(|end| end as i32).collect(),
         lags: Vec::new(),
@@ -496,233 +464,10 @@ pub fn at_odds(rng: &mut Rng, most_horizon: i64) -> RawJob {
             lower: rng.pick(&[-100, -4, 0]),
             upper: rng.pick(&[4, 100]),
             opening: 0,
+            cover: some_cover(rng).1,
         },
         windows,
         lags: lags.concat().into_iter().map(|word| word as i32).collect(),
         amount_bound: AMOUNT_BOUND,
     }
-}
-
-// ---------------------------------------------------------------------------
-// Faults
-// ---------------------------------------------------------------------------
-
-/// Puts one to three faults into a job. The last of them may be a number in
-/// the middle of a table, so the place differs from 0 often.
-pub fn make_faulty(rng: &mut Rng, job: &mut RawJob, room: &mut usize) {
-    let faults = rng.pick(&[1, 1, 1, 2, 2, 3]);
-    // Questions 5, 6 and 8 to 10 hide behind the others: they come more often.
-    let mix = [1, 2, 3, 4, 5, 5, 6, 6, 7, 8, 8, 9, 9, 10, 10, 11, 0];
-    for _ in 0..faults {
-        let question = rng.pick(&mix);
-        one_fault(rng, job, room, question);
-        if rng.chance(1, 3) {
-            one_fault(rng, job, room, question);
-        }
-    }
-}
-
-fn one_fault(rng: &mut Rng, job: &mut RawJob, room: &mut usize, question: usize) {
-    match question {
-        1 => job.settings.horizon = rng.pick(&[-1, 20_001, i32::MIN, i32::MAX]),
-        2 => {
-            let wild = rng.pick(&[-1_000_001, 1_000_001, i32::MIN, i32::MAX]);
-            *one_stock(rng, &mut job.settings) = wild;
-        }
-        3 => cross_limits(rng, &mut job.settings),
-        4 => odd_length(rng, &mut job.windows, EVENT_WORDS, MOST_WINDOW_WORDS),
-        5 => spoil_times(rng, job),
-        6 => spoil_amounts(rng, job),
-        7 => odd_length(rng, &mut job.lags, LAG_WORDS, MOST_LAG_WORDS),
-        8..=10 => spoil_lag(rng, job, question),
-        11 => *room = rng.below(3),
-        _ => wild_anywhere(rng, job),
-    }
-}
-
-fn one_stock<'s>(rng: &mut Rng, settings: &'s mut Settings) -> &'s mut i32 {
-    match rng.below(3) {
-        0 => &mut settings.lower,
-        1 => &mut settings.upper,
-        _ => &mut settings.opening,
-    }
-}
-
-fn cross_limits(rng: &mut Rng, settings: &mut Settings) {
-    if rng.chance(1, 2) {
-        settings.lower = settings.opening.saturating_add(1);
-    } else {
-        settings.upper = settings.opening.saturating_sub(1);
-    }
-}
-
-/// A table that is not whole entries, or has one entry too many.
-fn odd_length(rng: &mut Rng, table: &mut Vec<i32>, entry: usize, most: usize) {
-    let limit = if entry == EVENT_WORDS {
-        entry * MAX_EVENTS
-    } else {
-        entry * MAX_LAGS
-    };
-    let wanted = match rng.below(4) {
-        0 => limit + entry,
-        1 => limit + 1 + rng.below(most - limit),
-        2 => table.len().saturating_sub(1 + rng.below(entry - 1)),
-        _ => (table.len() + 1 + rng.below(entry - 1)).min(most),
-    };
-    let filler: Vec<i32> = table.iter().copied().take(entry).collect();
-    while table.len() < wanted {
-        let word = filler.get(table.len() % entry).copied().unwrap_or(0);
-        table.push(word);
-    }
-    table.truncate(wanted);
-}
-
-/// Question 5's fault at a random event.
-fn spoil_times(rng: &mut Rng, job: &mut RawJob) {
-    let horizon = job.settings.horizon;
-    let Some(window) = random_entry(rng, &mut job.windows, EVENT_WORDS) else {
-        return;
-    };
-    match rng.below(6) {
-        0 => window[0] = -1,
-        1 => window[1] = horizon.saturating_add(1),
-        2 => window[0] = window[1].saturating_add(1),
-        3 => window[1] = window[0].saturating_sub(1),
-        4 => window[rng.below(2)] = i32::MIN,
-        _ => window[rng.below(2)] = i32::MAX,
-    }
-}
-
-/// Question 6's fault at a random event.
-fn spoil_amounts(rng: &mut Rng, job: &mut RawJob) {
-    let Some(window) = random_entry(rng, &mut job.windows, EVENT_WORDS) else {
-        return;
-    };
-    let (low, high) = match rng.below(10) {
-        0 => (-1, 1),
-        1 => (0, 1),
-        2 => (-1, 0),
-        3 => (1, 10_000),
-        4 => (-10_000, -1),
-        5 => (5, 4),
-        6 => (-4, -5),
-        7 => (i32::MIN, window[3]),
-        8 => (window[2], i32::MAX),
-        _ => (i32::MAX, i32::MIN),
-    };
-    window[2] = low;
-    window[3] = high;
-}
-
-/// The fault of question 8, 9 or 10 at a random lag; there may be none yet.
-fn spoil_lag(rng: &mut Rng, job: &mut RawJob, question: usize) {
-    let events = job.events() as i32;
-    if job.lags.is_empty() && events > 1 {
-        for _ in 0..1 + rng.below(4) {
-            job.lags.extend([0, 1, 5]);
-        }
-    }
-    if job.lags.is_empty() {
-        job.lags.extend([0, 0, 0]);
-    }
-    let Some(lag) = random_entry(rng, &mut job.lags, LAG_WORDS) else {
-        return;
-    };
-    match question {
-        8 => lag[rng.below(2)] = rng.pick(&[-1, events, events + 7, i32::MIN, i32::MAX]),
-        9 => lag[1] = lag[0],
-        _ => lag[2] = rng.pick(&[-20_001, 20_001, i32::MIN, i32::MAX]),
-    }
-}
-
-/// An extreme or odd word at any place of the job.
-fn wild_anywhere(rng: &mut Rng, job: &mut RawJob) {
-    let word = rng.wild_word();
-    match rng.below(6) {
-        0 => job.settings.horizon = word,
-        1 => *one_stock(rng, &mut job.settings) = word,
-        2 | 3 if !job.windows.is_empty() => {
-            let place = rng.below(job.windows.len());
-            job.windows[place] = word;
-        }
-        _ if !job.lags.is_empty() => {
-            let place = rng.below(job.lags.len());
-            job.lags[place] = word;
-        }
-        _ => job.settings.opening = word,
-    }
-}
-
-fn random_entry<'t>(rng: &mut Rng, table: &'t mut [i32], entry: usize) -> Option<&'t mut [i32]> {
-    let count = table.len() / entry;
-    let place = rng.below(count);
-    table.chunks_exact_mut(entry).nth(place)
-}
-
-// ---------------------------------------------------------------------------
-// Plan records
-// ---------------------------------------------------------------------------
-
-/// A record for the propagator.
-pub fn plan_record(rng: &mut Rng) -> Record {
-    let (mut job, mut room) = job_and_room(rng);
-    if rng.chance(1, 4) {
-        make_faulty(rng, &mut job, &mut room);
-    }
-    let buffer = (0..room).map(|_| rng.word()).collect();
-    Record::new(Call::Plan, job, buffer)
-}
-
-/// A sound job and a buffer length for it; jobs on which no rule fires are
-/// kept in one case of three.
-fn job_and_room(rng: &mut Rng) -> (RawJob, usize) {
-    loop {
-        let job = match rng.below(400) {
-            0 => at_odds(rng, 1_200),
-            _ => sound_job(rng),
-        };
-        let (answer, buffer) = job.planned(MOST_BUFFER_WORDS);
-        let length = tally_of(answer).map_or(TRAILER_WORDS, |tally| tally.length);
-        if length > TRAILER_WORDS || rng.chance(1, 3) {
-            let room = plan_room(rng, &buffer[..length]);
-            return (job, room);
-        }
-    }
-}
-
-/// The buffer's length, given the whole list: enough, cut at some slip, or
-/// just anything.
-fn plan_room(rng: &mut Rng, list: &[i32]) -> usize {
-    let length = list.len();
-    let room = match rng.below(20) {
-        0..=8 => length + rng.below(30),
-        9..=16 => cut_room(rng, list),
-        17 => TRAILER_WORDS + rng.below(12),
-        18 => length.saturating_sub(rng.below(12)),
-        _ => TRAILER_WORDS + rng.below(2 * length),
-    };
-    room.clamp(TRAILER_WORDS, MOST_BUFFER_WORDS)
-}
-
-/// A room that ends at a slip of the list, exactly or nearly.
-pub fn cut_room(rng: &mut Rng, list: &[i32]) -> usize {
-    let places = slip_places(list);
-    let place = places[rng.below(places.len())] + TRAILER_WORDS;
-    match rng.below(4) {
-        0 => place.saturating_sub(1),
-        1 => place + 1,
-        _ => place,
-    }
-}
-
-/// Where the slips of a well-formed list begin, and where its trailer does.
-pub fn slip_places(list: &[i32]) -> Vec<usize> {
-    let end = list.len() - TRAILER_WORDS;
-    let mut places = vec![0];
-    let mut at = 0;
-    while at < end {
-        at += explanation_words(list[at + HEAD_WORDS - 1] as usize);
-        places.push(at);
-    }
-    places
 }

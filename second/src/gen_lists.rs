@@ -6,11 +6,11 @@ use crate::explanation::{
     explanation_words, End, Premise, CONFLICT_KIND, HEAD_WORDS, MARK, MAX_PREMISES, PREMISE_WORDS,
     TRAILER_WORDS,
 };
-use crate::gen_jobs::{
-    at_odds, cut_room, make_faulty, slip_places, small_sound_job, sound_job, tally_of, RawJob,
-    MOST_BUFFER_WORDS,
-};
+use crate::gen_faults::make_faulty;
+use crate::gen_jobs::{at_odds, small_sound_job, sound_job};
+use crate::gen_plans::cut_room;
 use crate::job::{Job, Window, EVENT_WORDS, LAG_WORDS};
+use crate::raw_job::{slip_places, tally_of, RawJob, MOST_BUFFER_WORDS};
 use crate::rng::Rng;
 use crate::rules::{outcome, Outcome, Rule};
 use crate::stream::{Call, Record};

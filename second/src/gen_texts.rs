@@ -5,8 +5,10 @@ use std::fs;
 use std::io::{self, Write};
 use std::path::Path;
 
-use crate::gen_jobs::{at_odds, make_faulty, sound_job, RawJob};
+use crate::gen_faults::make_faulty;
+use crate::gen_jobs::{at_odds, sound_job};
 use crate::job::{EVENT_WORDS, LAG_WORDS};
+use crate::raw_job::RawJob;
 use crate::rng::Rng;
 use crate::text::answer_text;
 
@@ -49,7 +51,12 @@ pub fn random_text(rng: &mut Rng) -> Vec<u8> {
 // Numbers
 // ---------------------------------------------------------------------------
 
-/// The numbers of a job's text: H Lmin Lmax Q n m, the events, the lags.
+/// Where cover stands among a text's numbers, where n does, and where m does.
+const COVER: usize = 4;
+const EVENT_COUNT: usize = 5;
+const LAG_COUNT: usize = 6;
+
+/// The numbers of a job's text: H Lmin Lmax Q cover n m, the events, the lags.
 fn job_numbers(rng: &mut Rng) -> Vec<i64> {
     let job = random_job(rng);
     let head = [
@@ -57,6 +64,7 @@ fn job_numbers(rng: &mut Rng) -> Vec<i64> {
         job.settings.lower,
         job.settings.upper,
         job.settings.opening,
+        job.settings.cover,
         (job.windows.len() / EVENT_WORDS) as i32,
         (job.lags.len() / LAG_WORDS) as i32,
     ];
@@ -79,18 +87,21 @@ fn random_job(rng: &mut Rng) -> RawJob {
     job
 }
 
-/// A number too few or too many, or counts that do not fit.
+/// A number too few or too many, cover left out, or counts that do not fit.
 fn miscount(rng: &mut Rng, numbers: &mut Vec<i64>) {
-    match rng.below(6) {
+    match rng.below(7) {
         0 => {
             numbers.pop();
         }
         1 => numbers.push(rng.within(-9, 9)),
         2 => numbers.truncate(rng.below(numbers.len())),
-        3 => numbers[4] = rng.pick(&[-1, 65, 64, i64::from(i32::MAX)]),
-        4 => numbers[5] = rng.pick(&[-1, 257, 256, i64::from(i32::MIN)]),
+        3 => numbers[EVENT_COUNT] = rng.pick(&[-1, 65, 64, i64::from(i32::MAX)]),
+        4 => numbers[LAG_COUNT] = rng.pick(&[-1, 257, 256, i64::from(i32::MIN)]),
+        5 => {
+            numbers.remove(COVER);
+        }
         _ => {
-            let place = 4 + rng.below(2);
+            let place = rng.pick(&[EVENT_COUNT, LAG_COUNT]);
             numbers[place] += rng.pick(&[-1, 1]);
         }
     }

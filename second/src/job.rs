@@ -1,5 +1,5 @@
-//! The job: four numbers, the window table, the lag table, and the questions
-//! 1 to 11 that decide whether a call is taken.
+//! The job: five numbers, the window table, the lag table, and the questions
+//! 1 to 11 and 22 that decide whether a call is taken.
 
 /// The greatest amount of an event in document 01. The inner functions take
 /// it as a parameter, so that small jobs can be enumerated in full.
@@ -15,13 +15,14 @@ pub const LAG_WORDS: usize = 3;
 pub const MIN_ROOM: usize = 3;
 pub const MAX_ROOM: usize = 1_000_000;
 
-/// The four plain numbers of a call, as sent in: H, Lmin, Lmax, Q.
+/// The five plain numbers of a call, as sent in: H, Lmin, Lmax, Q, cover.
 #[derive(Clone, Copy, Debug, PartialEq, Eq)]
 pub struct Settings {
     pub horizon: i32,
     pub lower: i32,
     pub upper: i32,
     pub opening: i32,
+    pub cover: i32,
 }
 
 /// A "no" to a question: its number and the first event, lag or explanation
@@ -97,6 +98,27 @@ pub struct Lag {
     pub d: i64,
 }
 
+/// From when on delivered goods can be pulled.
+#[derive(Clone, Copy, Debug, PartialEq, Eq)]
+pub enum Cover {
+    /// Cover 1: in the minute of their delivery.
+    SameMinute,
+    /// Cover 0: from the minute after it. For the low limit at T pulls up to T
+    /// and deliveries strictly before T count.
+    NextMinute,
+}
+
+impl Cover {
+    /// The cover that a word names (question 22).
+    pub fn from_word(word: i32) -> Option<Cover> {
+        match word {
+            1 => Some(Cover::SameMinute),
+            0 => Some(Cover::NextMinute),
+            _ => None,
+        }
+    }
+}
+
 /// An accepted job.
 #[derive(Clone, Debug)]
 pub struct Job {
@@ -104,13 +126,14 @@ pub struct Job {
     pub lower: i64,
     pub upper: i64,
     pub opening: i64,
+    pub cover: Cover,
     pub windows: Vec<Window>,
     pub lags: Vec<Lag>,
     pub amount_bound: i64,
 }
 
 impl Job {
-    /// Asks questions 1 to 11 in their order. `room` is the number of words
+    /// Asks questions 1 to 3, 22 and 4 to 11 in this order. `room` is the number of words
     /// of the slip buffer (for the checker, of its list).
     pub fn admit(
         amount_bound: i64,
@@ -157,7 +180,7 @@ fn ask_all<T>(number: i32, entries: &[T], yes: impl Fn(&T) -> bool) -> Result<()
     }
 }
 
-/// Questions 1 to 3. The job handed back has no events and no lags yet.
+/// Questions 1 to 3 and 22. The job handed back has no events and no lags yet.
 fn admit_numbers(settings: Settings) -> Result<Job, Refusal> {
     let horizon = i64::from(settings.horizon);
     let lower = i64::from(settings.lower);
@@ -167,11 +190,16 @@ fn admit_numbers(settings: Settings) -> Result<Job, Refusal> {
     ask(1, (0..=HORIZON_BOUND).contains(&horizon))?;
     ask(2, [lower, upper, opening].iter().all(|x| stock.contains(x)))?;
     ask(3, lower <= opening && opening <= upper)?;
+    let cover = Cover::from_word(settings.cover).ok_or(Refusal {
+        number: 22,
+        place: 0,
+    })?;
     Ok(Job {
         horizon,
         lower,
         upper,
         opening,
+        cover,
         windows: Vec::new(),
         lags: Vec::new(),
         amount_bound: 0,

@@ -7,9 +7,9 @@ use crate::explanation::{
 };
 use crate::job::{store_windows, Job, Refusal, Settings, Window, AMOUNT_BOUND};
 use crate::rules::{
-    lag_earliest_bound, lag_latest_bound, level, share_bound, wait_bound, Candidate, Family, Level,
-    Rule,
+    lag_earliest_bound, lag_latest_bound, level, share_bound, wait_bound, Candidate, Level, Rule,
 };
+use crate::views::{Family, View};
 
 /// What a taken call counted.
 #[derive(Clone, Copy, Debug, PartialEq, Eq)]
@@ -34,20 +34,11 @@ pub enum PlanAnswer {
 /// Narrows the window table and writes the log into the buffer. Takes any
 /// numbers and any lengths; a refused call changes no word.
 pub fn plan(
-    h: i32,
-    lmin: i32,
-    lmax: i32,
-    q: i32,
+    settings: Settings,
     windows: &mut [i32],
     lags: &[i32],
     buffer: &mut [i32],
 ) -> PlanAnswer {
-    let settings = Settings {
-        horizon: h,
-        lower: lmin,
-        upper: lmax,
-        opening: q,
-    };
     plan_within(AMOUNT_BOUND, settings, windows, lags, buffer)
 }
 
@@ -147,41 +138,33 @@ impl<'a> Run<'a> {
 
     /// The three rules of a family for an event.
     fn family(&mut self, family: Family, e: usize) -> Result<(), Halt> {
-        let mut at = level(self.job, &self.windows, family, e);
-        self.level(family, e, at)?;
-        if self.wait(family, e, at)? {
-            // t_min(e) has moved: the sums are taken anew.
-            at = level(self.job, &self.windows, family, e);
+        let view = View::new(self.job, family);
+        let mut at = level(&view, &self.windows, e);
+        if at.most < view.limit {
+            return self.level(family, e);
         }
-        self.shares(family, e, at)
+        if self.wait(family, &view, e, at)? {
+            // t_min(e) has moved: the sums are taken anew.
+            at = level(&view, &self.windows, e);
+        }
+        self.shares(family, &view, e, at)
     }
 
     /// Rules 3, 6, 9, 12.
-    fn level(&mut self, family: Family, e: usize, at: Level) -> Result<(), Halt> {
-        if at.most < family.side.limit(self.job) {
-            let finding = Finding {
-                rule: Rule::Level(family),
-                subject: e,
-                target: e,
-                bound: None,
-                conflict: true,
-            };
-            return self.conflict(&finding);
-        }
-        Ok(())
+    fn level(&mut self, family: Family, e: usize) -> Result<(), Halt> {
+        self.conflict(&Finding {
+            rule: Rule::Level(family),
+            subject: e,
+            target: e,
+            bound: None,
+            conflict: true,
+        })
     }
 
     /// Rules 4, 7, 10, 13; says whether a slip was written.
-    fn wait(&mut self, family: Family, e: usize, at: Level) -> Result<bool, Halt> {
+    fn wait(&mut self, family: Family, view: &View, e: usize, at: Level) -> Result<bool, Halt> {
         let before = self.slips;
-        let bound = wait_bound(
-            self.job,
-            &self.windows,
-            family,
-            e,
-            at.sure,
-            &mut self.candidates,
-        );
+        let bound = wait_bound(view, &self.windows, e, at.sure, &mut self.candidates);
         if let Some(bound) = bound {
             self.conclude(Rule::Wait(family), e, e, bound)?;
         }
@@ -191,14 +174,14 @@ impl<'a> Run<'a> {
     /// Rules 5, 8, 11, 14, targets in event order. The end moved is never one
     /// that the level reads, so one level serves all targets; and only a window
     /// wider than what is to spare can be narrowed.
-    fn shares(&mut self, family: Family, e: usize, at: Level) -> Result<(), Halt> {
-        let spare = at.most - family.side.limit(self.job);
+    fn shares(&mut self, family: Family, view: &View, e: usize, at: Level) -> Result<(), Halt> {
+        let spare = at.most - view.limit;
         for target in 0..self.windows.len() {
             let window = &self.windows[target];
             if window.h_max - window.h_min <= spare {
                 continue;
             }
-            if let Some(bound) = share_bound(self.job, &self.windows, family, e, target, at.most) {
+            if let Some(bound) = share_bound(view, &self.windows, e, target, at.most) {
                 self.conclude(Rule::Share(family), e, target, bound)?;
             }
         }

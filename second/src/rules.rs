@@ -1,172 +1,8 @@
 //! The fourteen rules of document 01: what each gives on given windows.
-//!
-//! Rules 3 to 14 come in four families of three. Rules 6 to 8 and 12 to 14 are
-//! the mirror of 3 to 5 and 9 to 11: all amounts and the opening stock
-//! negated, the limits exchanged and negated. `Side` is that mirror.
 
 use crate::explanation::End;
 use crate::job::{Job, Window};
-
-/// Which limit a rule speaks of. `Upper` sees the job in the mirror.
-#[derive(Clone, Copy, Debug, PartialEq, Eq)]
-pub enum Side {
-    Lower,
-    Upper,
-}
-
-impl Side {
-    /// Q as this side sees it.
-    pub fn opening(self, job: &Job) -> i64 {
-        match self {
-            Side::Lower => job.opening,
-            Side::Upper => -job.opening,
-        }
-    }
-
-    /// Lmin as this side sees it.
-    pub fn limit(self, job: &Job) -> i64 {
-        match self {
-            Side::Lower => job.lower,
-            Side::Upper => -job.upper,
-        }
-    }
-
-    /// h_max as this side sees it.
-    pub fn most(self, window: &Window) -> i64 {
-        match self {
-            Side::Lower => window.h_max,
-            Side::Upper => -window.h_min,
-        }
-    }
-
-    /// A delivery as this side sees it.
-    pub fn is_delivery(self, window: &Window) -> bool {
-        match self {
-            Side::Lower => window.h_min > 0,
-            Side::Upper => window.h_max < 0,
-        }
-    }
-
-    /// A pull as this side sees it.
-    pub fn is_pull(self, window: &Window) -> bool {
-        match self {
-            Side::Lower => window.h_max < 0,
-            Side::Upper => window.h_min > 0,
-        }
-    }
-
-    /// The end that "h ≥" means on this side: the conclusion of rule 5.
-    pub fn bound_end(self) -> End {
-        match self {
-            Side::Lower => End::Smallest,
-            Side::Upper => End::Largest,
-        }
-    }
-
-    /// The end that "h ≤" means on this side: the premise "h ≤ h_max".
-    pub fn most_end(self) -> End {
-        self.bound_end().opposite()
-    }
-
-    /// An amount turned into this side's, or back.
-    fn turn(self, amount: i64) -> i64 {
-        match self {
-            Side::Lower => amount,
-            Side::Upper => -amount,
-        }
-    }
-}
-
-/// Whether a rule looks at the events before e or at those by e.
-#[derive(Clone, Copy, Debug, PartialEq, Eq)]
-pub enum Order {
-    Before,
-    By,
-}
-
-/// Where an event y stands towards the event e at hand.
-#[derive(Clone, Copy, Debug, PartialEq, Eq)]
-pub enum Standing {
-    Surely,
-    /// Possibly, not surely.
-    Possibly,
-    Not,
-}
-
-impl Order {
-    /// Is another event surely before (by) the event at hand?
-    fn surely(self, at: &Window, other: &Window) -> bool {
-        match self {
-            Order::Before => other.t_max < at.t_min,
-            Order::By => other.t_max <= at.t_min,
-        }
-    }
-
-    /// Is another event possibly before (by) the event at hand?
-    fn possibly(self, at: &Window, other: &Window) -> bool {
-        match self {
-            Order::Before => other.t_min < at.t_max,
-            Order::By => other.t_min <= at.t_max,
-        }
-    }
-
-    /// How y stands towards e. e itself is never before, always surely by.
-    pub fn standing(self, windows: &[Window], e: usize, y: usize) -> Standing {
-        let (at, other) = (&windows[e], &windows[y]);
-        if y == e {
-            match self {
-                Order::Before => Standing::Not,
-                Order::By => Standing::Surely,
-            }
-        } else if self.surely(at, other) {
-            Standing::Surely
-        } else if self.possibly(at, other) {
-            Standing::Possibly
-        } else {
-            Standing::Not
-        }
-    }
-
-    /// What rule 4 adds to the minute of the event that reaches the limit,
-    /// and rule 10 does not.
-    pub fn step(self) -> i64 {
-        match self {
-            Order::Before => 1,
-            Order::By => 0,
-        }
-    }
-}
-
-/// One of the four families of three rules.
-#[derive(Clone, Copy, Debug, PartialEq, Eq)]
-pub struct Family {
-    pub side: Side,
-    pub order: Order,
-}
-
-impl Family {
-    /// In the order of their numbers: 3 to 5, 6 to 8, 9 to 11, 12 to 14.
-    pub const ALL: [Family; 4] = [
-        Family::new(Side::Lower, Order::Before),
-        Family::new(Side::Upper, Order::Before),
-        Family::new(Side::Lower, Order::By),
-        Family::new(Side::Upper, Order::By),
-    ];
-
-    const fn new(side: Side, order: Order) -> Family {
-        Family { side, order }
-    }
-
-    /// The number of the family's first rule.
-    fn first_number(self) -> i32 {
-        match (self.order, self.side) {
-            (Order::Before, Side::Lower) => 3,
-            (Order::Before, Side::Upper) => 6,
-            (Order::By, Side::Lower) => 9,
-            (Order::By, Side::Upper) => 12,
-        }
-    }
-}
+use crate::views::{Family, Order, Side, Standing, View};
 
 /// A rule.
 #[derive(Clone, Copy, Debug, PartialEq, Eq)]
@@ -229,7 +65,7 @@ impl Rule {
     }
 }
 
-/// The sums of a family at an event, as the family's side sees them.
+/// The sums of a view at an event, as the view's side sees them.
 #[derive(Clone, Copy, Debug, PartialEq, Eq)]
 pub struct Level {
     /// Q and the sure part.
@@ -238,25 +74,39 @@ pub struct Level {
     pub most: i64,
 }
 
-/// The level of a family at event e. e itself is never before, and always
-/// surely by.
-pub fn level(job: &Job, windows: &[Window], family: Family, e: usize) -> Level {
-    let Family { side, order } = family;
+/// The level of a view at event e.
+pub fn level(view: &View, windows: &[Window], e: usize) -> Level {
+    // One loop for each case, made by the compiler.
+    match (view.side, view.deliveries.step() - view.pulls.step()) {
+        (Side::Lower, 0) => level_on(Side::Lower, 0, view, windows, e),
+        (Side::Lower, later) => level_on(Side::Lower, later, view, windows, e),
+        (Side::Upper, 0) => level_on(Side::Upper, 0, view, windows, e),
+        (Side::Upper, later) => level_on(Side::Upper, later, view, windows, e),
+    }
+}
+
+/// `later`: how many minutes earlier than a pull a delivery must come.
+#[inline(always)]
+fn level_on(side: Side, later: i64, view: &View, windows: &[Window], e: usize) -> Level {
     let at = &windows[e];
-    let mut sure = side.opening(job);
+    // Pulls count when t(y) ≤ t(e) − step, deliveries when t(y) + later is.
+    let surely_up_to = at.t_min - view.pulls.step();
+    let possibly_up_to = at.t_max - view.pulls.step();
+    let mut sure = view.opening;
     let mut extra = 0;
     for (y, window) in windows.iter().enumerate() {
         if y == e {
             continue;
         }
-        let amount = side.most(window);
-        if order.surely(at, window) {
-            sure += amount;
-        } else if order.possibly(at, window) && side.is_delivery(window) {
-            extra += amount;
+        let delivery = side.is_delivery(window);
+        let later = i64::from(delivery) * later;
+        if window.t_max + later <= surely_up_to {
+            sure += side.most(window);
+        } else if window.t_min + later <= possibly_up_to && delivery {
+            extra += side.most(window);
         }
     }
-    if order == Order::By {
+    if view.order(at) == Order::By {
         sure += side.most(at);
     }
     Level {
@@ -271,22 +121,22 @@ pub type Candidate = (i64, i64);
 /// The bound of rules 4, 7, 10 and 13: if the sure part is below the limit,
 /// add the possible, not sure, deliveries by rising t_min until the limit is
 /// reached. `candidates` is working room.
+#[inline]
 pub fn wait_bound(
-    job: &Job,
+    view: &View,
     windows: &[Window],
-    family: Family,
     e: usize,
     sure: i64,
     candidates: &mut Vec<Candidate>,
 ) -> Option<i64> {
-    let side = family.side;
-    let limit = side.limit(job);
-    if sure >= limit {
+    if sure >= view.limit {
         return None;
     }
+    let side = view.side;
     candidates.clear();
     for (y, window) in windows.iter().enumerate() {
-        if side.is_delivery(window) && family.order.standing(windows, e, y) == Standing::Possibly {
+        let possibly = view.deliveries.standing(&windows[e], window) == Standing::Possibly;
+        if y != e && possibly && side.is_delivery(window) {
             candidates.push((window.t_min, side.most(window)));
         }
     }
@@ -294,32 +144,32 @@ pub fn wait_bound(
     let mut sum = sure;
     for (minute, amount) in candidates.iter() {
         sum += amount;
-        if sum >= limit {
-            return Some(minute + family.order.step());
+        if sum >= view.limit {
+            return Some(minute + view.deliveries.step());
         }
     }
     None
 }
 
-/// The bound of rules 5, 8, 11 and 14 for a target, given the family's most at
+/// The bound of rules 5, 8, 11 and 14 for a target, given the view's most at
 /// e; nothing where the target is not one of the rule's.
+#[inline]
 pub fn share_bound(
-    job: &Job,
+    view: &View,
     windows: &[Window],
-    family: Family,
     e: usize,
     target: usize,
     most: i64,
 ) -> Option<i64> {
-    let side = family.side;
+    let side = view.side;
     let window = &windows[target];
-    let counted = match family.order.standing(windows, e, target) {
+    let counted = match view.standing(windows, e, target) {
         Standing::Surely => side.is_delivery(window) || side.is_pull(window),
         Standing::Possibly => side.is_delivery(window),
         Standing::Not => false,
     };
     let others = most - side.most(window);
-    counted.then(|| side.turn(side.limit(job) - others))
+    counted.then(|| side.turn(view.limit - others))
 }
 
 /// The bound of rule 1.
@@ -357,20 +207,22 @@ pub fn outcome(
         Rule::LagLatest => Some(lag_latest_bound(job, windows, subject)),
         Rule::LagEarliest => Some(lag_earliest_bound(job, windows, subject)),
         Rule::Level(family) => {
-            let most = level(job, windows, family, subject).most;
-            return if most < family.side.limit(job) {
+            let view = View::new(job, family);
+            return if level(&view, windows, subject).most < view.limit {
                 Outcome::Conflict
             } else {
                 Outcome::Nothing
             };
         }
         Rule::Wait(family) => {
-            let sure = level(job, windows, family, subject).sure;
-            wait_bound(job, windows, family, subject, sure, candidates)
+            let view = View::new(job, family);
+            let sure = level(&view, windows, subject).sure;
+            wait_bound(&view, windows, subject, sure, candidates)
         }
         Rule::Share(family) => {
-            let most = level(job, windows, family, subject).most;
-            share_bound(job, windows, family, subject, target, most)
+            let view = View::new(job, family);
+            let most = level(&view, windows, subject).most;
+            share_bound(&view, windows, subject, target, most)
         }
     };
     bound.map_or(Outcome::Nothing, Outcome::Bound)

@@ -1,11 +1,12 @@
 //! The stream of records that two implementations are compared on: little-endian
-//! 32-bit words, eight header words a record, a single 0 at the end.
+//! 32-bit words, nine header words a record, a single 0 at the end.
 
 use std::io::{self, Read, Write};
 
-use crate::gen_jobs::{plan_record, RawJob};
 use crate::gen_lists::read_record;
+use crate::gen_plans::plan_record;
 use crate::job::Settings;
+use crate::raw_job::RawJob;
 use crate::rng::Rng;
 
 const PLAN_KIND: i32 = 1;
@@ -44,7 +45,7 @@ impl Record {
         }
     }
 
-    fn header(&self) -> [i32; 8] {
+    fn header(&self) -> [i32; 9] {
         let call = match self.call {
             Call::Plan => PLAN_KIND,
             Call::Read => READ_KIND,
@@ -55,6 +56,7 @@ impl Record {
             self.settings.lower,
             self.settings.upper,
             self.settings.opening,
+            self.settings.cover,
             self.windows.len() as i32,
             self.lags.len() as i32,
             self.buffer.len() as i32,
@@ -97,10 +99,10 @@ impl<R: Read> RecordReader<R> {
             READ_KIND => Call::Read,
             _ => return Err(bad_stream("unknown kind of record")),
         };
-        let head = self.words(7)?;
-        let windows = self.table(head[4])?;
-        let lags = self.table(head[5])?;
-        let buffer = self.table(head[6])?;
+        let head = self.words(8)?;
+        let windows = self.table(head[5])?;
+        let lags = self.table(head[6])?;
+        let buffer = self.table(head[7])?;
         Ok(Some(Record {
             call,
             settings: Settings {
@@ -108,6 +110,7 @@ impl<R: Read> RecordReader<R> {
                 lower: head[1],
                 upper: head[2],
                 opening: head[3],
+                cover: head[4],
             },
             windows,
             lags,

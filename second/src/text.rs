@@ -4,13 +4,13 @@
 use std::fmt::Write as _;
 use std::io::{self, Read};
 
-use crate::job::{Refusal, EVENT_WORDS, LAG_WORDS, MAX_EVENTS, MAX_LAGS};
+use crate::job::{Refusal, Settings, EVENT_WORDS, LAG_WORDS, MAX_EVENTS, MAX_LAGS};
 use crate::propagator::{plan, PlanAnswer, Tally};
 
 /// The log's room in words.
 pub const TEXT_ROOM: usize = 16_000;
-/// H, Lmin, Lmax, Q, n, m.
-const HEAD_NUMBERS: usize = 6;
+/// H, Lmin, Lmax, Q, cover, n, m.
+const HEAD_NUMBERS: usize = 7;
 /// No well-formed text has more numbers than this.
 const MOST_NUMBERS: usize = HEAD_NUMBERS + EVENT_WORDS * MAX_EVENTS + LAG_WORDS * MAX_LAGS;
 /// The number of the refusal of a text not formed as asked.
@@ -24,7 +24,7 @@ pub struct Malformed;
 
 /// A job as read from a text.
 struct TextJob {
-    head: [i32; 4],
+    settings: Settings,
     windows: Vec<i32>,
     lags: Vec<i32>,
 }
@@ -109,15 +109,21 @@ impl NumberReader {
 /// Splits the numbers into the parts of a job.
 fn job_of(numbers: &[i32]) -> Result<TextJob, Malformed> {
     let head = numbers.get(..HEAD_NUMBERS).ok_or(Malformed)?;
-    let events = count_up_to(head[4], MAX_EVENTS)?;
-    let lags = count_up_to(head[5], MAX_LAGS)?;
+    let events = count_up_to(head[5], MAX_EVENTS)?;
+    let lags = count_up_to(head[6], MAX_LAGS)?;
     let rest = &numbers[HEAD_NUMBERS..];
     let window_words = events * EVENT_WORDS;
     if rest.len() != window_words + lags * LAG_WORDS {
         return Err(Malformed);
     }
     Ok(TextJob {
-        head: [head[0], head[1], head[2], head[3]],
+        settings: Settings {
+            horizon: head[0],
+            lower: head[1],
+            upper: head[2],
+            opening: head[3],
+            cover: head[4],
+        },
         windows: rest[..window_words].to_vec(),
         lags: rest[window_words..].to_vec(),
     })
@@ -133,8 +139,7 @@ fn count_up_to(word: i32, most: usize) -> Result<usize, Malformed> {
 /// The lines that answer a job.
 fn answer_job(mut job: TextJob) -> String {
     let mut buffer = vec![0; TEXT_ROOM];
-    let [h, lmin, lmax, q] = job.head;
-    let answer = plan(h, lmin, lmax, q, &mut job.windows, &job.lags, &mut buffer);
+    let answer = plan(job.settings, &mut job.windows, &job.lags, &mut buffer);
     match answer {
         PlanAnswer::Settled(tally) => taken("settled", tally, &job.windows),
         PlanAnswer::Conflict(tally) => taken("conflict", tally, &job.windows),

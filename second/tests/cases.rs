@@ -1,6 +1,6 @@
 //! The cases K1 to K11 of document 01, every word of both tables.
 
-use second::{plan, read, PlanAnswer, ReadAnswer, Refusal, Tally};
+use second::{plan, read, PlanAnswer, ReadAnswer, Refusal, Settings, Tally};
 
 /// What a buffer word holds before a call.
 const JUNK: i32 = -777;
@@ -10,6 +10,7 @@ const JUNK: i32 = -777;
 struct Case {
     h: i32,
     q: i32,
+    cover: i32,
     windows: Vec<i32>,
     lags: Vec<i32>,
     room: usize,
@@ -19,6 +20,7 @@ fn case(q: i32, windows: &[i32]) -> Case {
     Case {
         h: 100,
         q,
+        cover: 1,
         windows: windows.to_vec(),
         lags: Vec::new(),
         room: 40,
@@ -26,6 +28,11 @@ fn case(q: i32, windows: &[i32]) -> Case {
 }
 
 impl Case {
+    fn with_cover(mut self, cover: i32) -> Case {
+        self.cover = cover;
+        self
+    }
+
     fn with_lags(mut self, lags: &[i32]) -> Case {
         self.lags = lags.to_vec();
         self
@@ -36,18 +43,28 @@ impl Case {
         self
     }
 
+    fn settings(&self) -> Settings {
+        Settings {
+            horizon: self.h,
+            lower: 0,
+            upper: 10,
+            opening: self.q,
+            cover: self.cover,
+        }
+    }
+
     /// The answer, the window table and the buffer after the call.
     fn plan(&self) -> (PlanAnswer, Vec<i32>, Vec<i32>) {
         let mut windows = self.windows.clone();
         let mut buffer = vec![JUNK; self.room];
-        let answer = plan(self.h, 0, 10, self.q, &mut windows, &self.lags, &mut buffer);
+        let answer = plan(self.settings(), &mut windows, &self.lags, &mut buffer);
         (answer, windows, buffer)
     }
 
     /// The answer and the window table after the call.
     fn read(&self, list: &[i32]) -> (ReadAnswer, Vec<i32>) {
         let mut windows = self.windows.clone();
-        let answer = read(self.h, 0, 10, self.q, &mut windows, &self.lags, list);
+        let answer = read(self.settings(), &mut windows, &self.lags, list);
         (answer, windows)
     }
 
@@ -166,6 +183,47 @@ fn k7_one_minute_is_netted() {
 }
 
 #[test]
+fn k1_and_k7_under_cover_0() {
+    case(0, &K1_WINDOWS).with_cover(0).gives(
+        PlanAnswer::Settled(tally(1, 2, 16)),
+        &[5, 40, 6, 6, 6, 30, -4, -4],
+        &[10, 1, 1, 1, 6, 2, 0, 1, 5, 1, 4, -4, 13, 1, 0, 4207],
+    );
+    let windows = [7, 7, 6, 6, 7, 7, -4, -4];
+    case(0, &windows).with_cover(0).gives(
+        PlanAnswer::Conflict(tally(1, 1, 19)),
+        &windows,
+        &[9, 0, 0, 0, 0, 3, 0, 1, 7, 1, 2, 7, 1, 4, -4, 16, 1, 0, 4207],
+    );
+}
+
+#[test]
+fn a_delivery_of_its_own_minute_under_cover_0() {
+    // The delivery's own amount is no part of most by it: no target, no fact.
+    let windows = [3, 3, 2, 6, 0, 2, -4, -4];
+    case(4, &windows).with_cover(0).gives(
+        PlanAnswer::Settled(tally(0, 1, 3)),
+        &windows,
+        &[0, 0, 4207],
+    );
+    case(3, &windows).with_cover(0).gives(
+        PlanAnswer::Conflict(tally(1, 1, 19)),
+        &windows,
+        &[3, 0, 0, 0, 0, 3, 0, 1, 3, 1, 2, 2, 1, 4, -4, 16, 1, 0, 4207],
+    );
+}
+
+#[test]
+fn another_cover_is_22() {
+    for cover in [-1, 2, i32::MIN, i32::MAX] {
+        case(0, &[]).with_cover(cover).is_refused(22, 0);
+        // Between 3 and 4.
+        case(11, &[]).with_cover(cover).is_refused(3, 0);
+        case(0, &[1]).with_cover(cover).is_refused(22, 0);
+    }
+}
+
+#[test]
 fn k8_lag() {
     case(0, &[0, 10, 0, 0, 0, 6, 0, 0])
         .with_lags(&[0, 1, -2])
@@ -273,15 +331,14 @@ fn extreme_words_are_harmless() {
         number: 1,
         place: 0,
     };
-    let answer = plan(
-        word,
-        word,
-        word,
-        word,
-        &mut [word; 4],
-        &[word; 3],
-        &mut [word; 3],
-    );
+    let settings = Settings {
+        horizon: word,
+        lower: word,
+        upper: word,
+        opening: word,
+        cover: word,
+    };
+    let answer = plan(settings, &mut [word; 4], &[word; 3], &mut [word; 3]);
     assert_eq!(answer, PlanAnswer::Refused(refusal));
 }
 
@@ -303,7 +360,9 @@ fn longest_creep() {
     let mut windows = [0, 20_000, 0, 0, 0, 20_000, 0, 0];
     let mut buffer = vec![0; 1_000_000];
     let lags = [0, 1, 0, 1, 0, -1];
-    let answer = plan(20_000, 0, 10, 0, &mut windows, &lags, &mut buffer);
+    let mut job = case(0, &windows);
+    job.h = 20_000;
+    let answer = plan(job.settings(), &mut windows, &lags, &mut buffer);
     assert!(matches!(
         answer,
         PlanAnswer::Conflict(Tally { rounds: 10_001, .. })

@@ -3,7 +3,7 @@
 use second::answers::{answer_line, write_answers};
 use second::brute;
 use second::counts::write_counts;
-use second::gen_jobs::{MOST_BUFFER_WORDS, MOST_LAG_WORDS, MOST_WINDOW_WORDS};
+use second::raw_job::{MOST_BUFFER_WORDS, MOST_LAG_WORDS, MOST_WINDOW_WORDS};
 use second::stream::{checksum, write_stream, Call, RecordReader};
 
 fn small_stream(seed: u64) -> Vec<u8> {
@@ -50,8 +50,7 @@ fn one_line_for_every_record() {
     assert_eq!(lines.lines().next(), Some(answer_line(&mut first).as_str()));
 }
 
-/// The numbers of the table rows that start with a number, by that number;
-/// the second table has five columns, as has the first.
+/// The rows of the tables of refusals and of rules, five columns each.
 fn count_rows(text: &str) -> Vec<Vec<u64>> {
     text.lines()
         .filter_map(|line| {
@@ -65,15 +64,16 @@ fn count_rows(text: &str) -> Vec<Vec<u64>> {
 #[test]
 fn every_refusal_and_every_rule_is_reached() {
     let mut bytes = Vec::new();
-    write_stream(&mut bytes, 9, 4_000, 8_000).expect("writing to memory");
+    write_stream(&mut bytes, 9, 8_000, 16_000).expect("writing to memory");
     let mut text = Vec::new();
     write_counts(bytes.as_slice(), &mut text).expect("a whole stream");
     let text = String::from_utf8(text).expect("plain text");
     let rows = count_rows(&text);
-    let (refusals, rules) = rows.split_at(19);
-    assert_eq!(rules.len(), 14, "{text}");
+    let (refusals, rules) = rows.split_at(20);
+    assert_eq!(rules.len(), 2 * 14, "{text}");
     for row in refusals {
-        assert!(row[3] > 0 && (row[0] > 11 || row[1] > 0), "{text}");
+        let by_planner = !(12..=19).contains(&row[0]);
+        assert!(row[3] > 0 && (row[1] > 0) == by_planner, "{text}");
     }
     for row in rules {
         let level = [3, 6, 9, 12].contains(&row[0]);

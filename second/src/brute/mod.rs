@@ -4,16 +4,23 @@
 //! The greatest amount is scaled down, so that the jobs with their windows
 //! opened can be enumerated too.
 
+mod legal;
+mod small;
+
 use std::fmt;
 use std::io::{self, Write};
 
 use crate::checker::{read_within, ReadAnswer};
-use crate::explanation::{End, CONFLICT_KIND, TRAILER_WORDS};
-use crate::gen_jobs::{cut_room, RawJob};
+use crate::explanation::{CONFLICT_KIND, TRAILER_WORDS};
 use crate::gen_lists::{decode, edit, encode, rival_list, LooseSlip};
-use crate::job::{Job, Settings, Window, EVENT_WORDS, LAG_WORDS};
+use crate::gen_plans::cut_room;
+use crate::job::{Job, Window, EVENT_WORDS, LAG_WORDS};
 use crate::propagator::{plan_within, PlanAnswer};
+use crate::raw_job::RawJob;
 use crate::rng::Rng;
+
+use legal::{legal_schedules, lies_inside, meets, Schedule};
+use small::small_job;
 
 /// The greatest amount in these jobs.
 const BOUND: i64 = 3;
@@ -26,9 +33,6 @@ const ROOM: usize = 20_000;
 const OWN_CUTS: usize = 2;
 const RIVALS: usize = 6;
 const EDITS: usize = 24;
-
-/// A minute and an amount for every event; unused entries are 0.
-type Schedule = [(i64, i64); MOST_EVENTS];
 
 /// What was wrong, in words.
 struct Failure {
@@ -92,8 +96,8 @@ fn print_failure(raw: &RawJob, failure: &Failure, out: &mut impl Write) -> io::R
     writeln!(out, "failed: {}", failure.reason)?;
     writeln!(
         out,
-        "H {} Lmin {} Lmax {} Q {} greatest amount {BOUND}",
-        s.horizon, s.lower, s.upper, s.opening
+        "H {} Lmin {} Lmax {} Q {} cover {} greatest amount {BOUND}",
+        s.horizon, s.lower, s.upper, s.opening, s.cover
     )?;
     for window in raw.windows.chunks(EVENT_WORDS) {
         writeln!(out, "event {window:?}")?;
@@ -103,121 +107,6 @@ fn print_failure(raw: &RawJob, failure: &Failure, out: &mut impl Write) -> io::R
     }
     writeln!(out, "list {:?}", failure.list)
 }
-
-// ---------------------------------------------------------------------------
-// Jobs and their legal schedules
-// ---------------------------------------------------------------------------
-
-fn small_job(rng: &mut Rng) -> RawJob {
-    let horizon = rng.within(0, MOST_HORIZON);
-    let events = rng.pick(&[0, 1, 2, 2, 2, 3, 3, 3, 3, 3, 4]);
-    let opening = rng.within(-3, 3);
-    let settings = Settings {
-        horizon: horizon as i32,
-        lower: (opening - rng.within(0, 4)) as i32,
-        upper: (opening + rng.within(0, 4)) as i32,
-        opening: opening as i32,
-    };
-    let windows = (0..events)
-        .flat_map(|_| small_window(rng, horizon))
-        .collect();
-    let lags = small_lags(rng, events);
-    RawJob {
-        settings,
-        windows,
-        lags,
-        amount_bound: BOUND,
-    }
-}
-
-fn small_window(rng: &mut Rng, horizon: i64) -> [i32; EVENT_WORDS] {
-    let (one, two) = (rng.within(0, horizon), rng.within(0, horizon));
-    let (low, high) = (rng.within(1, BOUND), rng.within(1, BOUND));
-    let (low, high) = (low.min(high), low.max(high));
-    let (h_min, h_max) = match rng.below(7) {
-        0 => (0, 0),
-        1..=3 => (low, high),
-        _ => (-high, -low),
-    };
-    [one.min(two), one.max(two), h_min, h_max].map(|end| end as i32)
-}
-
-fn small_lags(rng: &mut Rng, events: usize) -> Vec<i32> {
-    let count = if events < 2 {
-        0
-    } else {
-        rng.pick(&[0, 0, 1, 1, 2])
-    };
-    let mut lags = Vec::new();
-    for _ in 0..count {
-        let a = rng.below(events);
-        let b = (a + 1 + rng.below(events - 1)) % events;
-        lags.extend([a as i32, b as i32, rng.within(-3, 3) as i32]);
-    }
-    lags
-}
-
-/// Every legal schedule of the job with the given windows.
-fn legal_schedules(job: &Job, windows: &[Window]) -> Vec<Schedule> {
-    let mut found = Vec::new();
-    let mut schedule = [(0, 0); MOST_EVENTS];
-    assign(job, windows, 0, &mut schedule, &mut found);
-    found
-}
-
-fn assign(
-    job: &Job,
-    windows: &[Window],
-    event: usize,
-    schedule: &mut Schedule,
-    found: &mut Vec<Schedule>,
-) {
-    let Some(window) = windows.get(event) else {
-        if is_legal(job, schedule) {
-            found.push(*schedule);
-        }
-        return;
-    };
-    for minute in window.t_min..=window.t_max {
-        for amount in window.h_min..=window.h_max {
-            schedule[event] = (minute, amount);
-            assign(job, windows, event + 1, schedule, found);
-        }
-    }
-}
-
-/// Do all lags hold, and both limits at every whole moment, also before the
-/// first event?
-fn is_legal(job: &Job, schedule: &Schedule) -> bool {
-    let events = &schedule[..job.windows.len()];
-    let lags_hold = job
-        .lags
-        .iter()
-        .all(|lag| events[lag.a].0 - events[lag.b].0 <= lag.d);
-    lags_hold
-        && (-1..=job.horizon).all(|moment| {
-            let moved: i64 = events
-                .iter()
-                .filter(|(minute, _)| *minute <= moment)
-                .map(|(_, amount)| amount)
-                .sum();
-            (job.lower..=job.upper).contains(&(job.opening + moved))
-        })
-}
-
-fn lies_inside(schedule: &Schedule, windows: &[Window]) -> bool {
-    windows
-        .iter()
-        .zip(schedule)
-        .all(|(window, (minute, amount))| {
-            (window.t_min..=window.t_max).contains(minute)
-                && (window.h_min..=window.h_max).contains(amount)
-        })
-}
-
-// ---------------------------------------------------------------------------
-// Checks
-// ---------------------------------------------------------------------------
 
 /// A job with all that is enumerated of it.
 struct Enumerated<'a> {
@@ -291,19 +180,6 @@ fn only_narrowed((left, sent): (&Window, &Window)) -> bool {
     let ordered = |ends: [i64; 4]| ends.is_sorted();
     ordered([sent.t_min, left.t_min, left.t_max, sent.t_max])
         && ordered([sent.h_min, left.h_min, left.h_max, sent.h_max])
-}
-
-/// Has the schedule the premise or conclusion? None has a conflict.
-fn meets(schedule: &Schedule, fact: &[i32; 3]) -> bool {
-    let (minute, amount) = schedule[fact[0] as usize];
-    let value = i64::from(fact[2]);
-    match End::from_kind(fact[1]) {
-        Some(End::Earliest) => minute >= value,
-        Some(End::Latest) => minute <= value,
-        Some(End::Smallest) => amount >= value,
-        Some(End::Largest) => amount <= value,
-        None => false,
-    }
 }
 
 fn check_job(rng: &mut Rng, raw: &RawJob, counts: &mut Counts) -> Result<(), Failure> {

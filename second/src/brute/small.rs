@@ -1,0 +1,57 @@
+//! Small random jobs whose legal schedules can all be listed.
+
+use super::{BOUND, MOST_HORIZON};
+use crate::job::{Settings, EVENT_WORDS};
+use crate::raw_job::RawJob;
+use crate::rng::Rng;
+
+/// A sound job with few events, minutes and amounts.
+pub fn small_job(rng: &mut Rng) -> RawJob {
+    let horizon = rng.within(0, MOST_HORIZON);
+    let events = rng.pick(&[0, 1, 2, 2, 2, 3, 3, 3, 3, 3, 4]);
+    let opening = rng.within(-3, 3);
+    let settings = Settings {
+        horizon: horizon as i32,
+        lower: (opening - rng.within(0, 4)) as i32,
+        upper: (opening + rng.within(0, 4)) as i32,
+        opening: opening as i32,
+        cover: rng.below(2) as i32,
+    };
+    let windows = (0..events)
+        .flat_map(|_| small_window(rng, horizon))
+        .collect();
+    let lags = small_lags(rng, events);
+    RawJob {
+        settings,
+        windows,
+        lags,
+        amount_bound: BOUND,
+    }
+}
+
+fn small_window(rng: &mut Rng, horizon: i64) -> [i32; EVENT_WORDS] {
+    let (one, two) = (rng.within(0, horizon), rng.within(0, horizon));
+    let (low, high) = (rng.within(1, BOUND), rng.within(1, BOUND));
+    let (low, high) = (low.min(high), low.max(high));
+    let (h_min, h_max) = match rng.below(7) {
+        0 => (0, 0),
+        1..=3 => (low, high),
+        _ => (-high, -low),
+    };
+    [one.min(two), one.max(two), h_min, h_max].map(|end| end as i32)
+}
+
+fn small_lags(rng: &mut Rng, events: usize) -> Vec<i32> {
+    let count = if events < 2 {
+        0
+    } else {
+        rng.pick(&[0, 0, 1, 1, 2])
+    };
+    let mut lags = Vec::new();
+    for _ in 0..count {
+        let a = rng.below(events);
+        let b = (a + 1 + rng.below(events - 1)) % events;
+        lags.extend([a as i32, b as i32, rng.within(-3, 3) as i32]);
+    }
+    lags
+}

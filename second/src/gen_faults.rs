@@ -1,0 +1,159 @@
+//! Faults put into a sound job, so that each refusal 1 to 11 and 22 is reached.
+
+use crate::job::{Settings, EVENT_WORDS, LAG_WORDS, MAX_EVENTS, MAX_LAGS};
+use crate::raw_job::{RawJob, MOST_LAG_WORDS, MOST_WINDOW_WORDS};
+use crate::rng::Rng;
+
+/// Puts one to three faults into a job. The last of them may be a number in
+/// the middle of a table, so the place differs from 0 often.
+pub fn make_faulty(rng: &mut Rng, job: &mut RawJob, room: &mut usize) {
+    let faults = rng.pick(&[1, 1, 1, 2, 2, 3]);
+    // Questions 5, 6 and 8 to 10 hide behind the others: they come more often.
+    let mix = [1, 2, 3, 22, 4, 5, 5, 6, 6, 7, 8, 8, 9, 9, 10, 10, 11, 0];
+    for _ in 0..faults {
+        let question = rng.pick(&mix);
+        one_fault(rng, job, room, question);
+        if rng.chance(1, 3) {
+            one_fault(rng, job, room, question);
+        }
+    }
+}
+
+fn one_fault(rng: &mut Rng, job: &mut RawJob, room: &mut usize, question: usize) {
+    match question {
+        1 => job.settings.horizon = rng.pick(&[-1, 20_001, i32::MIN, i32::MAX]),
+        2 => {
+            let wild = rng.pick(&[-1_000_001, 1_000_001, i32::MIN, i32::MAX]);
+            *one_stock(rng, &mut job.settings) = wild;
+        }
+        3 => cross_limits(rng, &mut job.settings),
+        4 => odd_length(rng, &mut job.windows, EVENT_WORDS, MOST_WINDOW_WORDS),
+        5 => spoil_times(rng, job),
+        6 => spoil_amounts(rng, job),
+        7 => odd_length(rng, &mut job.lags, LAG_WORDS, MOST_LAG_WORDS),
+        8..=10 => spoil_lag(rng, job, question),
+        11 => *room = rng.below(3),
+        22 => job.settings.cover = rng.pick(&[-1, 2, 3, i32::MIN, i32::MAX]),
+        _ => wild_anywhere(rng, job),
+    }
+}
+
+fn one_stock<'s>(rng: &mut Rng, settings: &'s mut Settings) -> &'s mut i32 {
+    match rng.below(3) {
+        0 => &mut settings.lower,
+        1 => &mut settings.upper,
+        _ => &mut settings.opening,
+    }
+}
+
+fn cross_limits(rng: &mut Rng, settings: &mut Settings) {
+    if rng.chance(1, 2) {
+        settings.lower = settings.opening.saturating_add(1);
+    } else {
+        settings.upper = settings.opening.saturating_sub(1);
+    }
+}
+
+/// A table that is not whole entries, or has one entry too many.
+fn odd_length(rng: &mut Rng, table: &mut Vec<i32>, entry: usize, most: usize) {
+    let limit = if entry == EVENT_WORDS {
+        entry * MAX_EVENTS
+    } else {
+        entry * MAX_LAGS
+    };
+    let wanted = match rng.below(4) {
+        0 => limit + entry,
+        1 => limit + 1 + rng.below(most - limit),
+        2 => table.len().saturating_sub(1 + rng.below(entry - 1)),
+        _ => (table.len() + 1 + rng.below(entry - 1)).min(most),
+    };
+    let filler: Vec<i32> = table.iter().copied().take(entry).collect();
+    while table.len() < wanted {
+        let word = filler.get(table.len() % entry).copied().unwrap_or(0);
+        table.push(word);
+    }
+    table.truncate(wanted);
+}
+
+/// Question 5's fault at a random event.
+fn spoil_times(rng: &mut Rng, job: &mut RawJob) {
+    let horizon = job.settings.horizon;
+    let Some(window) = random_entry(rng, &mut job.windows, EVENT_WORDS) else {
+        return;
+    };
+    match rng.below(6) {
+        0 => window[0] = -1,
+        1 => window[1] = horizon.saturating_add(1),
+        2 => window[0] = window[1].saturating_add(1),
+        3 => window[1] = window[0].saturating_sub(1),
+        4 => window[rng.below(2)] = i32::MIN,
+        _ => window[rng.below(2)] = i32::MAX,
+    }
+}
+
+/// Question 6's fault at a random event.
+fn spoil_amounts(rng: &mut Rng, job: &mut RawJob) {
+    let Some(window) = random_entry(rng, &mut job.windows, EVENT_WORDS) else {
+        return;
+    };
+    let (low, high) = match rng.below(10) {
+        0 => (-1, 1),
+        1 => (0, 1),
+        2 => (-1, 0),
+        3 => (1, 10_000),
+        4 => (-10_000, -1),
+        5 => (5, 4),
+        6 => (-4, -5),
+        7 => (i32::MIN, window[3]),
+        8 => (window[2], i32::MAX),
+        _ => (i32::MAX, i32::MIN),
+    };
+    window[2] = low;
+    window[3] = high;
+}
+
+/// The fault of question 8, 9 or 10 at a random lag; there may be none yet.
+fn spoil_lag(rng: &mut Rng, job: &mut RawJob, question: usize) {
+    let events = job.events() as i32;
+    if job.lags.is_empty() && events > 1 {
+        for _ in 0..1 + rng.below(4) {
+            job.lags.extend([0, 1, 5]);
+        }
+    }
+    if job.lags.is_empty() {
+        job.lags.extend([0, 0, 0]);
+    }
+    let Some(lag) = random_entry(rng, &mut job.lags, LAG_WORDS) else {
+        return;
+    };
+    match question {
+        8 => lag[rng.below(2)] = rng.pick(&[-1, events, events + 7, i32::MIN, i32::MAX]),
+        9 => lag[1] = lag[0],
+        _ => lag[2] = rng.pick(&[-20_001, 20_001, i32::MIN, i32::MAX]),
+    }
+}
+
+/// An extreme or odd word at any place of the job.
+fn wild_anywhere(rng: &mut Rng, job: &mut RawJob) {
+    let word = rng.wild_word();
+    match rng.below(7) {
+        0 => job.settings.horizon = word,
+        6 => job.settings.cover = word,
+        1 => *one_stock(rng, &mut job.settings) = word,
+        2 | 3 if !job.windows.is_empty() => {
+            let place = rng.below(job.windows.len());
+            job.windows[place] = word;
+        }
+        _ if !job.lags.is_empty() => {
+            let place = rng.below(job.lags.len());
+            job.lags[place] = word;
+        }
+        _ => job.settings.opening = word,
+    }
+}
+
+fn random_entry<'t>(rng: &mut Rng, table: &'t mut [i32], entry: usize) -> Option<&'t mut [i32]> {
+    let count = table.len() / entry;
+    let place = rng.below(count);
+    table.chunks_exact_mut(entry).nth(place)
+}

@@ -1,0 +1,60 @@
+//! Random records for the propagator: a job, sound or faulty, and a buffer.
+
+use crate::explanation::TRAILER_WORDS;
+use crate::gen_faults::make_faulty;
+use crate::gen_jobs::{at_odds, sound_job};
+use crate::raw_job::{slip_places, tally_of, RawJob, MOST_BUFFER_WORDS};
+use crate::rng::Rng;
+use crate::stream::{Call, Record};
+
+/// A record for the propagator.
+pub fn plan_record(rng: &mut Rng) -> Record {
+    let (mut job, mut room) = job_and_room(rng);
+    if rng.chance(1, 4) {
+        make_faulty(rng, &mut job, &mut room);
+    }
+    let buffer = (0..room).map(|_| rng.word()).collect();
+    Record::new(Call::Plan, job, buffer)
+}
+
+/// A sound job and a buffer length for it; jobs on which no rule fires are
+/// kept in one case of three.
+fn job_and_room(rng: &mut Rng) -> (RawJob, usize) {
+    loop {
+        let job = match rng.below(400) {
+            0 => at_odds(rng, 1_200),
+            _ => sound_job(rng),
+        };
+        let (answer, buffer) = job.planned(MOST_BUFFER_WORDS);
+        let length = tally_of(answer).map_or(TRAILER_WORDS, |tally| tally.length);
+        if length > TRAILER_WORDS || rng.chance(1, 3) {
+            let room = plan_room(rng, &buffer[..length]);
+            return (job, room);
+        }
+    }
+}
+
+/// The buffer's length, given the whole list: enough, cut at some slip, or
+/// just anything.
+fn plan_room(rng: &mut Rng, list: &[i32]) -> usize {
+    let length = list.len();
+    let room = match rng.below(20) {
+        0..=8 => length + rng.below(30),
+        9..=16 => cut_room(rng, list),
+        17 => TRAILER_WORDS + rng.below(12),
+        18 => length.saturating_sub(rng.below(12)),
+        _ => TRAILER_WORDS + rng.below(2 * length),
+    };
+    room.clamp(TRAILER_WORDS, MOST_BUFFER_WORDS)
+}
+
+/// A room that ends at a slip of the list, exactly or nearly.
+pub fn cut_room(rng: &mut Rng, list: &[i32]) -> usize {
+    let places = slip_places(list);
+    let place = places[rng.below(places.len())] + TRAILER_WORDS;
+    match rng.below(4) {
+        0 => place.saturating_sub(1),
+        1 => place + 1,
+        _ => place,
+    }
+}
