@@ -1,7 +1,7 @@
 //! Planner and reader on both sides, with one kind of answer: what a call
 //! returns and writes as its five words.
 
-use second::gen_jobs::RawJob;
+use second::raw_job::RawJob;
 use second::{plan, read, PlanAnswer, ReadAnswer, Refusal, Tally};
 
 /// The number that a call returns, and its five words: place, outcome, slips,
@@ -24,6 +24,7 @@ type Call<List> = unsafe extern "C" fn(
     low: i32,
     high: i32,
     q: i32,
+    cover: i32,
     table: *mut i32,
     table_words: usize,
     lags: *const i32,
@@ -38,11 +39,11 @@ type Call<List> = unsafe extern "C" fn(
 #[rustfmt::skip]
 extern "C" {
     fn orthmuzi_plan(
-        h: i32, low: i32, high: i32, q: i32, table: *mut i32, table_words: usize, lags: *const i32, lag_words: usize,
+        h: i32, low: i32, high: i32, q: i32, cover: i32, table: *mut i32, table_words: usize, lags: *const i32, lag_words: usize,
         buffer: *mut i32, buffer_words: usize, answer: *mut i32, answer_words: usize,
     ) -> i32;
     fn orthmuzi_read(
-        h: i32, low: i32, high: i32, q: i32, table: *mut i32, table_words: usize, lags: *const i32, lag_words: usize,
+        h: i32, low: i32, high: i32, q: i32, cover: i32, table: *mut i32, table_words: usize, lags: *const i32, lag_words: usize,
         list: *const i32, list_words: usize, answer: *mut i32, answer_words: usize,
     ) -> i32;
 }
@@ -64,6 +65,7 @@ fn answered<List>(
             s.lower,
             s.upper,
             s.opening,
+            s.cover,
             windows.as_mut_ptr(),
             windows.len(),
             job.lags.as_ptr(),
@@ -110,10 +112,7 @@ fn refused(refusal: Refusal) -> Answer {
 
 /// The second program's planner.
 pub fn second_plan(job: &RawJob, windows: &mut [i32], buffer: &mut [i32]) -> Answer {
-    let s = job.settings;
-    match plan(
-        s.horizon, s.lower, s.upper, s.opening, windows, &job.lags, buffer,
-    ) {
+    match plan(job.settings, windows, &job.lags, buffer) {
         PlanAnswer::Settled(tally) => taken(SETTLED, tally),
         PlanAnswer::Conflict(tally) => taken(CONFLICT, tally),
         PlanAnswer::Stopped(tally) => taken(STOPPED, tally),
@@ -128,10 +127,7 @@ pub fn second_read(job: &RawJob, windows: &mut [i32], list: &[i32]) -> Answer {
         rounds: 0,
         length: 0,
     };
-    let s = job.settings;
-    match read(
-        s.horizon, s.lower, s.upper, s.opening, windows, &job.lags, list,
-    ) {
+    match read(job.settings, windows, &job.lags, list) {
         ReadAnswer::Open => taken(OPEN, none),
         ReadAnswer::Conflict => taken(CONFLICT, none),
         ReadAnswer::Refused(refusal) => refused(refusal),

@@ -1,8 +1,8 @@
 //! Jobs with 64 events and up to 256 lags that drive the planner hard: creeps,
 //! chases, hidden plans, open amounts.
 
-use second::gen_jobs::RawJob;
 use second::job::{HORIZON_BOUND, MAX_EVENTS, MAX_LAGS, STOCK_BOUND};
+use second::raw_job::RawJob;
 use second::rng::Rng;
 
 use crate::jobs::job;

@@ -1,9 +1,10 @@
 //! The jobs that are timed.
 
-use second::gen_jobs::RawJob;
 use second::job::{Settings, AMOUNT_BOUND, HORIZON_BOUND, MAX_EVENTS, MAX_LAGS};
+use second::raw_job::RawJob;
 use second::rng::Rng;
 
+/// A job with cover 1 and an empty cage.
 pub fn job(limits: (i32, i32), horizon: i64, windows: Vec<i32>, lags: Vec<i32>) -> RawJob {
     RawJob {
         settings: Settings {
@@ -11,11 +12,19 @@ pub fn job(limits: (i32, i32), horizon: i64, windows: Vec<i32>, lags: Vec<i32>) 
             lower: limits.0,
             upper: limits.1,
             opening: 0,
+            cover: 1,
         },
         windows,
         lags,
         amount_bound: AMOUNT_BOUND,
     }
+}
+
+/// The same job with cover 0.
+pub fn pulled_later(job: &RawJob) -> RawJob {
+    let mut job = job.clone();
+    job.settings.cover = 0;
+    job
 }
 
 /// Deliveries and pulls in turn, all windows crossing, limits far off.

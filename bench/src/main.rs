@@ -12,8 +12,8 @@ use std::time::{Duration, Instant};
 
 use calls::{Answer, CONFLICT, OPEN, SETTLED, STOPPED};
 use families::Amounts;
-use second::gen_jobs::RawJob;
 use second::job::MAX_ROOM;
+use second::raw_job::RawJob;
 
 /// Each case is run for so long, and at least so many times.
 const TIME_FOR_CASE: Duration = Duration::from_secs(2);
@@ -81,12 +81,16 @@ fn main() {
     let chase = families::chase();
     time_plan("plan: chase, room 1,000,000", &chase, Some(0.33));
     time_plan_in(16_000, "plan: chase, room 16,000", &chase, Some(0.41));
+    let later = jobs::pulled_later(&chase);
+    time_plan("plan: chase, room 1,000,000, cover 0", &later, None);
     for seed in families::PLAN_SEEDS {
         let name = format!("plan: hidden plan, seed {seed}");
         time_plan(&name, &families::hidden_plan(seed), Some(0.21));
     }
     let open = families::open_amounts();
     time_plan("plan: open amounts, small cage", &open, Some(0.23));
+    let later = jobs::pulled_later(&open);
+    time_plan("plan: the same, cover 0", &later, None);
 }
 
 /// The time that a call alone took.
