@@ -32,5 +32,5 @@ module _ {k : Job} {ws : List ℤ} {j : model.Job} (h : Holds k ws j) where
   }
 
 -- The job of the same numbers.
-pub job-same : {h h′ low low′ high high′ q q′ : ℤ} → h′ ≡ h → low′ ≡ low → high′ ≡ high → q′ ≡ q → (table lags : List ℤ) → model.job h′ low′ high′ q′ table lags ≡ model.job h low high q table lags
-job-same a b c d table lags = rw (a, b, c, d)
+pub job-same : {h h′ low low′ high high′ q q′ cover cover′ : ℤ} → h′ ≡ h → low′ ≡ low → high′ ≡ high → q′ ≡ q → cover′ ≡ cover → (table lags : List ℤ) → model.job h′ low′ high′ q′ cover′ table lags ≡ model.job h low high q cover table lags
+job-same a b c d e table lags = rw (a, b, c, d, e)

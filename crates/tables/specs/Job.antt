@@ -13,7 +13,8 @@ use Rattle.tables.specs.declared.Job.{Job}
 
 -- The code's reservoir.
 abbrev pub reservoir-of : Reservoir → model.Reservoir
-reservoir-of c = record { min-level = c .low .0; max-level = c .high .0; initial = c .initial .0 }
+reservoir-of c =
+    record { min-level = c .low .0; max-level = c .high .0; initial = c .initial .0; cover = c .cover .0 }
 
 -- The code's job with its lent lag words is a call's: all of it but the windows sent in, of which the code's has the number of events.
 pub record Holds (k : Job) (ws : List ℤ) (j : model.Job) : Type 0 where
