@@ -1,4 +1,4 @@
--- The answer to questions 1 to 11, read as document 01's number and place; the questions that go to each event or lag, by number.
+-- The answer to a call's questions, read as the papers' number and place; the questions that go to each event or lag, by number.
 use mathlib.Core.Bool.{Bool, cond}
 use mathlib.Core.List.{List}
 use Prim.Native.Nat.{ℕ}

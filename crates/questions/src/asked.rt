@@ -1,4 +1,4 @@
-// Questions 1 to 11, which planner and reader both put to a call, in order; words are only compared, so that any word is harmless.
+// Questions 1 to 11 and 22, which planner and reader both put to a call, in order; words are only compared, so that any word is harmless.
 use crate::Check;
 use crate::LEAST_ROOM;
 use crate::MOST_ROOM;
@@ -15,6 +15,7 @@ use tables::MOST_MINUTES;
 use tables::MOST_WINDOW_WORDS;
 use tables::Reservoir;
 use tables::Time;
+use tables::Word;
 ghost use mathlib.Core.Path.{_≡_};
 ghost use mathlib.Core.Bool.{not, _&&_, _||_};
 ghost use Prim.Native.Nat.{_+_, _*_, _%_, _<_, _≤_};
@@ -23,7 +24,7 @@ ghost use lib.IntN.{pos, negsuc};
 ghost use lib.Signed.{leZ, ltZ};
 ghost use Rattle.integers.specs.Range.{eqZ};
 ghost use Rattle.model.specs.Job.{windows, Job as Call};
-ghost use Rattle.model.specs.Questions.{ask, each, refuse, horizon-right, limit-in-range, limits-right, stock-right, times-right, heights-right, lag-events, lag-differs, lag-in-range, room-right, cage-questions, window-questions, lag-questions, own-questions, questions};
+ghost use Rattle.model.specs.Questions.{ask, each, refuse, in-range, horizon-right, limit-in-range, limits-right, stock-right, cover-right, times-right, heights-right, lag-events, lag-differs, lag-in-range, room-right, cage-questions, window-questions, lag-questions, own-questions, questions};
 ghost use Rattle.tables.specs.Job.{reservoir-of, Holds};
 ghost use Rattle.questions.specs.Asked.{check-of, event-right, lag-right};
 
@@ -131,6 +132,18 @@ fn stock_right(c: Reservoir) -> bool
     lies_in(c.initial, c.low, c.high)
 }
 
+fn is_cover(w: Word) -> bool
+    ensures { λ r. ⌜ r ≡ in-range (pos 0) (pos 1) (w .0) ⌝ }
+{
+    between(w.0, 0, 1)
+}
+
+fn cover_right(c: Reservoir) -> bool
+    ensures { λ r. ⌜ r ≡ cover-right (reservoir-of c) ⌝ }
+{
+    is_cover(c.cover)
+}
+
 // ---- questions to one event
 
 fn times_right(h: Time, table: &[i32], y: usize) -> bool
@@ -232,7 +245,7 @@ fn each_lag(q: usize, n: usize, lags: &[i32], m: usize) -> Check
 
 // ---- the questions in order
 
-// Questions 1 to 3, to the horizon and the cage.
+// Questions 1 to 3 and 22, to the horizon and the cage.
 fn cage_questions(h: Time, c: Reservoir) -> Check
     ensures { λ r. ⌜ check-of r ≡ cage-questions (h .0) (reservoir-of c) ⌝ }
 {
@@ -244,6 +257,9 @@ fn cage_questions(h: Time, c: Reservoir) -> Check
     }
     if !stock_right(c) {
         return refuse(3, 0);
+    }
+    if !cover_right(c) {
+        return refuse(22, 0);
     }
     Check::Pass
 }
@@ -296,7 +312,7 @@ pub fn room_question(room: usize) -> Check
     Check::Pass
 }
 
-// The job's own questions, 1 to 10.
+// The job's own questions, 1 to 10 and 22.
 pub fn own_questions(k: Job, table: &[i32], lags: &[i32]) -> Check
     ensures { λ r. ⌜ (
         (j : Call) →
@@ -317,7 +333,7 @@ pub fn own_questions(k: Job, table: &[i32], lags: &[i32]) -> Check
     lag_questions(table.len() / 4, lags)
 }
 
-// Questions 1 to 11: the job's own, then of the slip buffer's length.
+// Questions 1 to 11 and 22: the job's own, then of the slip buffer's length.
 pub fn questions(k: Job, table: &[i32], lags: &[i32], room: usize) -> Check
     ensures { λ r. ⌜ (
         (j : Call) →

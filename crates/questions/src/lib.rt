@@ -1,4 +1,4 @@
-// Questions 1 to 11, which planner and reader put to a call before anything else.
+// Questions 1 to 11 and 22, which planner and reader put to a call before anything else.
 pub mod asked; // asked.rt: the questions in order
 
 // A slip buffer or a list has 3 to 1,000,000 words.

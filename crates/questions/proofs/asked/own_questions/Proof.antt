@@ -1,4 +1,4 @@
--- `questions::asked::own_questions` puts questions 1 to 10 in three groups, each where those before it passed. Assumes nothing.
+-- `questions::asked::own_questions` puts questions 1 to 10 and 22 in three groups, each where those before it passed. Assumes nothing.
 use borrow.Author.Needs.{needs}
 use mathlib.Core.Path.{_∙_}
 use Rattle.questions.proofs.Questions.{then-pass, then-refuse, own-asked, few-events}
