@@ -94,17 +94,17 @@ words-out : (k : ℕ) (ns : List ℤ) → length ns < k → next-words k ns ≡ 
 words-out k ns h = rw (lt-leb k (length ns) h)
 
 -- The parts behind the counts: n events' words, m lags' words, and nothing more.
-module _ (h low high q : ℤ) (r : List ℤ) (n m : ℕ) where
+module _ (h low high q cover : ℤ) (r : List ℤ) (n m : ℕ) where
   abbrev tables : Parsed Job
   tables =
       on (next-words (4 * n) r)
-      (λ w. on (next-words (3 * m) (w .1)) (λ l. at-end (job h low high q (w .0) (l .0)) (l .1)))
+      (λ w. on (next-words (3 * m) (w .1)) (λ l. at-end (job h low high q cover (w .0) (l .0)) (l .1)))
 
   abbrev rest : List ℤ
   rest = drop (4 * n) r
 
   abbrev both : Job
-  both = job h low high q (take (4 * n) r) (take (3 * m) rest)
+  both = job h low high q cover (take (4 * n) r) (take (3 * m) rest)
 
   tables-right : length r ≡ 4 * n + 3 * m → tables ≡ parsed both
   tables-right e =
@@ -121,95 +121,97 @@ module _ (h low high q : ℤ) (r : List ℤ) (n m : ℕ) where
           rw (words-in (4 * n) r a, words-in (3 * m) rest b)
           (some-left both (drop (3 * m) rest) (omega (arith, d, length-drop (4 * n) r, length-drop (3 * m) rest)))
 
--- H Lmin Lmax Q n m, and what stands behind them.
-module _ (a b c d e f : ℤ) (r : List ℤ) where
-  abbrev six : List ℤ
-  six = a ∷ b ∷ c ∷ d ∷ e ∷ f ∷ r
+-- H Lmin Lmax Q cover n m, and what stands behind them.
+module _ (a b c d k e f : ℤ) (r : List ℤ) where
+  abbrev headed : List ℤ
+  headed = a ∷ b ∷ c ∷ d ∷ k ∷ e ∷ f ∷ r
 
-  no-events : in-range (pos 0) (pos 64) e ≡ false → job-of six ≡ malformed
+  no-events : in-range (pos 0) (pos 64) e ≡ false → job-of headed ≡ malformed
   unfolding job-of
   no-events p = rw p
 
-  no-lags : in-range (pos 0) (pos 256) f ≡ false → job-of six ≡ malformed
+  no-lags : in-range (pos 0) (pos 256) f ≡ false → job-of headed ≡ malformed
   unfolding job-of
   no-lags q = case (in-range (pos 0) (pos 64) e) (λ p. rw (p, q)) (λ p. rw p)
 
-  both-counts : in-range (pos 0) (pos 64) e ≡ true → in-range (pos 0) (pos 256) f ≡ true → job-of six ≡ tables a b c d r (natAbs e) (natAbs f)
+  both-counts : in-range (pos 0) (pos 64) e ≡ true → in-range (pos 0) (pos 256) f ≡ true → job-of headed ≡ tables a b c d k r (natAbs e) (natAbs f)
   unfolding job-of
   both-counts p q = rw (p, q)
 
-  six-job : in-range (pos 0) (pos 64) e ≡ true → in-range (pos 0) (pos 256) f ≡ true → length six ≡ 6 + 4 * natAbs e + 3 * natAbs f → parsed (job-in six (record { events = natAbs e; lags = natAbs f })) ≡ job-of six
-  six-job p q h =
-      ap (λ (l : List ℤ). parsed (job a b c d (take (4 * natAbs e) r) (take (3 * natAbs f) l))) (sym (drop-drop (4 * natAbs e) 6 six))
-      ∙ sym (both-counts p q ∙ tables-right a b c d r (natAbs e) (natAbs f) (omega arith))
+  head-job : in-range (pos 0) (pos 64) e ≡ true → in-range (pos 0) (pos 256) f ≡ true → length headed ≡ 7 + 4 * natAbs e + 3 * natAbs f → parsed (job-in headed (record { events = natAbs e; lags = natAbs f })) ≡ job-of headed
+  head-job p q h =
+      ap (λ (l : List ℤ). parsed (job a b c d k (take (4 * natAbs e) r) (take (3 * natAbs f) l))) (sym (drop-drop (4 * natAbs e) 7 headed))
+      ∙ sym (both-counts p q ∙ tables-right a b c d k r (natAbs e) (natAbs f) (omega arith))
 
-by-six : (P : List ℤ → Type 0) → ((a b c d e f : ℤ) (r : List ℤ) → P (six a b c d e f r)) → (ns : List ℤ) → 6 ≤ length ns → P ns
-by-six P g [] h = absurd (omega arith)
-by-six P g (a ∷ []) h = absurd (omega arith)
-by-six P g (a ∷ b ∷ []) h = absurd (omega arith)
-by-six P g (a ∷ b ∷ c ∷ []) h = absurd (omega arith)
-by-six P g (a ∷ b ∷ c ∷ d ∷ []) h = absurd (omega arith)
-by-six P g (a ∷ b ∷ c ∷ d ∷ e ∷ []) h = absurd (omega arith)
-by-six P g (a ∷ b ∷ c ∷ d ∷ e ∷ f ∷ r) h = g a b c d e f r
+by-head : (P : List ℤ → Type 0) → ((a b c d k e f : ℤ) (r : List ℤ) → P (headed a b c d k e f r)) → (ns : List ℤ) → 7 ≤ length ns → P ns
+by-head P g [] h = absurd (omega arith)
+by-head P g (a ∷ []) h = absurd (omega arith)
+by-head P g (a ∷ b ∷ []) h = absurd (omega arith)
+by-head P g (a ∷ b ∷ c ∷ []) h = absurd (omega arith)
+by-head P g (a ∷ b ∷ c ∷ d ∷ []) h = absurd (omega arith)
+by-head P g (a ∷ b ∷ c ∷ d ∷ k ∷ []) h = absurd (omega arith)
+by-head P g (a ∷ b ∷ c ∷ d ∷ k ∷ e ∷ []) h = absurd (omega arith)
+by-head P g (a ∷ b ∷ c ∷ d ∷ k ∷ e ∷ f ∷ r) h = g a b c d k e f r
 
-too-few : (ns : List ℤ) → length ns < 6 → job-of ns ≡ malformed
+too-few : (ns : List ℤ) → length ns < 7 → job-of ns ≡ malformed
 unfolding job-of
 too-few [] h = refl
 too-few (a ∷ []) h = refl
 too-few (a ∷ b ∷ []) h = refl
 too-few (a ∷ b ∷ c ∷ []) h = refl
 too-few (a ∷ b ∷ c ∷ d ∷ []) h = refl
-too-few (a ∷ b ∷ c ∷ d ∷ e ∷ []) h = case (in-range (pos 0) (pos 64) e) (λ p. rw p) (λ p. rw p)
-too-few (a ∷ b ∷ c ∷ d ∷ e ∷ f ∷ r) h = absurd (omega arith)
+too-few (a ∷ b ∷ c ∷ d ∷ k ∷ []) h = refl
+too-few (a ∷ b ∷ c ∷ d ∷ k ∷ e ∷ []) h = case (in-range (pos 0) (pos 64) e) (λ p. rw p) (λ p. rw p)
+too-few (a ∷ b ∷ c ∷ d ∷ k ∷ e ∷ f ∷ r) h = absurd (omega arith)
 
--- No job has more than 1030 numbers.
-pub too-many : (ns : List ℤ) → 1030 < length ns → job-of ns ≡ malformed
-too-many ns h = by-six (λ ns. 1030 < length ns → job-of ns ≡ malformed) go ns (omega arith) h
+-- No job has more than 1031 numbers.
+pub too-many : (ns : List ℤ) → 1031 < length ns → job-of ns ≡ malformed
+too-many ns h = by-head (λ ns. 1031 < length ns → job-of ns ≡ malformed) go ns (omega arith) h
   where
-    go : (a b c d e f : ℤ) (r : List ℤ) → 1030 < length (six a b c d e f r) → job-of (six a b c d e f r) ≡ malformed
-    go a b c d e f r h =
+    go : (a b c d k e f : ℤ) (r : List ℤ) → 1031 < length (headed a b c d k e f r) → job-of (headed a b c d k e f r) ≡ malformed
+    go a b c d k e f r h =
         case (in-range (pos 0) (pos 64) e)
         (λ p.
         case (in-range (pos 0) (pos 256) f)
         (λ q.
-        let k = range-few e 64 p in
-        let l = range-few f 256 q in
-        both-counts a b c d e f r p q ∙ tables-wrong a b c d r (natAbs e) (natAbs f) (λ z. omega arith))
-        (no-lags a b c d e f r))
-        (no-events a b c d e f r)
+        let n = range-few e 64 p in
+        let m = range-few f 256 q in
+        both-counts a b c d k e f r p q ∙ tables-wrong a b c d k r (natAbs e) (natAbs f) (λ z. omega arith))
+        (no-lags a b c d k e f r))
+        (no-events a b c d k e f r)
 
 -- ---- the layout
 
 none-laid : (ns : List ℤ) → job-of ns ≡ malformed → Handed Malformed ns (job-of ns)
 none-laid ns e = record { says = sym e; roomy = tt }
 
-pub laid-few : (ns : List ℤ) → length ns < 6 → Handed Malformed ns (job-of ns)
+pub laid-few : (ns : List ℤ) → length ns < 7 → Handed Malformed ns (job-of ns)
 laid-few ns h = none-laid ns (too-few ns h)
 
-module _ (ns : List ℤ) (l : 6 ≤ length ns) where
-  pub laid-no-events : Outside ≡ count-of (at ns 4) (pos 64) → Handed Malformed ns (job-of ns)
+module _ (ns : List ℤ) (l : 7 ≤ length ns) where
+  pub laid-no-events : Outside ≡ count-of (at ns 5) (pos 64) → Handed Malformed ns (job-of ns)
   laid-no-events e =
-      none-laid ns (by-six (λ ns. in-range (pos 0) (pos 64) (at ns 4) ≡ false → job-of ns ≡ malformed) no-events ns l (count-missed (at ns 4) 64 e))
+      none-laid ns (by-head (λ ns. in-range (pos 0) (pos 64) (at ns 5) ≡ false → job-of ns ≡ malformed) no-events ns l (count-missed (at ns 5) 64 e))
 
-  pub laid-no-lags : Outside ≡ count-of (at ns 5) (pos 256) → Handed Malformed ns (job-of ns)
+  pub laid-no-lags : Outside ≡ count-of (at ns 6) (pos 256) → Handed Malformed ns (job-of ns)
   laid-no-lags e =
-      none-laid ns (by-six (λ ns. in-range (pos 0) (pos 256) (at ns 5) ≡ false → job-of ns ≡ malformed) no-lags ns l (count-missed (at ns 5) 256 e))
+      none-laid ns (by-head (λ ns. in-range (pos 0) (pos 256) (at ns 6) ≡ false → job-of ns ≡ malformed) no-lags ns l (count-missed (at ns 6) 256 e))
 
-  module _ {n m : ℕ} (p : Is n ≡ count-of (at ns 4) (pos 64)) (q : Is m ≡ count-of (at ns 5) (pos 256)) where
-    pub laid-other : (length ns ≡ 6 + 4 * n + 3 * m → ⊥) → Handed Malformed ns (job-of ns)
+  module _ {n m : ℕ} (p : Is n ≡ count-of (at ns 5) (pos 64)) (q : Is m ≡ count-of (at ns 6) (pos 256)) where
+    pub laid-other : (length ns ≡ 7 + 4 * n + 3 * m → ⊥) → Handed Malformed ns (job-of ns)
     laid-other d =
-        let x = count-found (at ns 4) 64 p in
-        let y = count-found (at ns 5) 256 q in
+        let x = count-found (at ns 5) 64 p in
+        let y = count-found (at ns 6) 256 q in
         none-laid ns
-        (by-six (λ ns. in-range (pos 0) (pos 64) (at ns 4) ≡ true → in-range (pos 0) (pos 256) (at ns 5) ≡ true → (length ns ≡ 6 + 4 * natAbs (at ns 4) + 3 * natAbs (at ns 5) → ⊥) → job-of ns ≡ malformed)
-        (λ a b c d e f r u v w. both-counts a b c d e f r u v ∙ tables-wrong a b c d r (natAbs e) (natAbs f) (λ z. w (omega arith)))
+        (by-head (λ ns. in-range (pos 0) (pos 64) (at ns 5) ≡ true → in-range (pos 0) (pos 256) (at ns 6) ≡ true → (length ns ≡ 7 + 4 * natAbs (at ns 5) + 3 * natAbs (at ns 6) → ⊥) → job-of ns ≡ malformed)
+        (λ a b c d k e f r u v w. both-counts a b c d k e f r u v ∙ tables-wrong a b c d k r (natAbs e) (natAbs f) (λ z. w (omega arith)))
         ns l (x .inside) (y .inside) (λ z. d (rw (x .is, y .is) z)))
 
-    pub laid-job : length ns ≡ 6 + 4 * n + 3 * m → Handed (Fits (record { events = n; lags = m })) ns (job-of ns)
+    pub laid-job : length ns ≡ 7 + 4 * n + 3 * m → Handed (Fits (record { events = n; lags = m })) ns (job-of ns)
     laid-job h =
-        let x = count-found (at ns 4) 64 p in
-        let y = count-found (at ns 5) 256 q in
-        let g = by-six (λ ns. in-range (pos 0) (pos 64) (at ns 4) ≡ true → in-range (pos 0) (pos 256) (at ns 5) ≡ true → length ns ≡ 6 + 4 * natAbs (at ns 4) + 3 * natAbs (at ns 5) → parsed (job-in ns (record { events = natAbs (at ns 4); lags = natAbs (at ns 5) })) ≡ job-of ns) six-job ns l (x .inside) (y .inside) (rw (← x .is, ← y .is) h) in
+        let x = count-found (at ns 5) 64 p in
+        let y = count-found (at ns 6) 256 q in
+        let g = by-head (λ ns. in-range (pos 0) (pos 64) (at ns 5) ≡ true → in-range (pos 0) (pos 256) (at ns 6) ≡ true → length ns ≡ 7 + 4 * natAbs (at ns 5) + 3 * natAbs (at ns 6) → parsed (job-in ns (record { events = natAbs (at ns 5); lags = natAbs (at ns 6) })) ≡ job-of ns) head-job ns l (x .inside) (y .inside) (rw (← x .is, ← y .is) h) in
         record {
           says = rw (x .is, y .is) g;
           roomy = record { few-events = x .few; few-lags = y .few; inside = omega arith };
@@ -227,7 +229,7 @@ part-take (suc i) j (suc k) (x ∷ t) h = part-take i j k t (omega arith)
 told-within : (l : Layout) (k : ℕ) (t : List ℤ) → Roomy l (take k t) → told l (take k t) ≡ told l t
 told-within (Fits s) k t h =
     let g : numbers-of s ≤ k = omega (arith, h .inside, length-take k t) in
-    rw (getD-take k t 0 (pos 0) (omega arith), getD-take k t 1 (pos 0) (omega arith), getD-take k t 2 (pos 0) (omega arith), getD-take k t 3 (pos 0) (omega arith), part-take 6 (4 * s .events) k t (omega arith), part-take (6 + 4 * s .events) (3 * s .lags) k t (omega arith))
+    rw (getD-take k t 0 (pos 0) (omega arith), getD-take k t 1 (pos 0) (omega arith), getD-take k t 2 (pos 0) (omega arith), getD-take k t 3 (pos 0) (omega arith), getD-take k t 4 (pos 0) (omega arith), part-take 7 (4 * s .events) k t (omega arith), part-take (7 + 4 * s .events) (3 * s .lags) k t (omega arith))
 told-within Malformed k t h = refl
 
 roomy-within : (l : Layout) (k : ℕ) (t : List ℤ) → Roomy l (take k t) → Roomy l t

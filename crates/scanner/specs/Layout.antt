@@ -23,12 +23,12 @@ count-of z most = cond (in-range (pos 0) most z) (Is (natAbs z)) Outside
 
 -- How many numbers a job of these sizes has.
 abbrev pub numbers-of : Sizes → ℕ
-numbers-of s = 6 + 4 * s .events + 3 * s .lags
+numbers-of s = 7 + 4 * s .events + 3 * s .lags
 
 -- The job of these sizes in a table that begins with its numbers.
 abbrev pub job-in : List ℤ → Sizes → Job
 job-in t s =
-    job (at t 0) (at t 1) (at t 2) (at t 3) (take (4 * s .events) (drop 6 t)) (take (3 * s .lags) (drop (6 + 4 * s .events) t))
+    job (at t 0) (at t 1) (at t 2) (at t 3) (at t 4) (take (4 * s .events) (drop 7 t)) (take (3 * s .lags) (drop (7 + 4 * s .events) t))
 
 abbrev pub told : Layout → List ℤ → Parsed Job
 told (Fits s) t = parsed (job-in t s)

@@ -8,8 +8,8 @@ ghost use Rattle.scanner.specs.Layout.{at, count-of, Handed};
 use crate::scan::Scan;
 use crate::scan::end_token;
 
-// H Lmin Lmax Q n m, 4 words an event of 64, 3 words a lag of 256: no job has more numbers.
-pub const MOST_NUMBERS: usize = 1030;
+// H Lmin Lmax Q cover n m, 4 words an event of 64, 3 words a lag of 256: no job has more numbers.
+pub const MOST_NUMBERS: usize = 1031;
 
 // How many events and lags there are.
 pub struct Sizes {
@@ -17,7 +17,7 @@ pub struct Sizes {
     pub lags: usize,
 }
 
-// How numbers are laid out: H Lmin Lmax Q n m, then n events, m lags; or otherwise, which is 20.
+// How numbers are laid out: H Lmin Lmax Q cover n m, then n events, m lags; or otherwise, which is 20.
 pub enum Layout {
     Fits(Sizes),
     Malformed,
@@ -60,18 +60,18 @@ fn count_at(numbers: &[i32], i: usize, most: i32) -> Count
 fn laid_out(numbers: &[i32]) -> Layout
     ensures { λ r. ⌜ Handed r (now (numbers .entry)) (job-of (now (numbers .entry))) ⌝ }
 {
-    if numbers.len() < 6 {
+    if numbers.len() < 7 {
         return Layout::Malformed;
     }
-    let n = count_at(numbers, 4, 64);
+    let n = count_at(numbers, 5, 64);
     let Count::Is(events) = n else {
         return Layout::Malformed;
     };
-    let m = count_at(numbers, 5, 256);
+    let m = count_at(numbers, 6, 256);
     let Count::Is(lags) = m else {
         return Layout::Malformed;
     };
-    if numbers.len() == 6 + 4 * events + 3 * lags {
+    if numbers.len() == 7 + 4 * events + 3 * lags {
         return Layout::Fits(Sizes { events, lags });
     }
     Layout::Malformed

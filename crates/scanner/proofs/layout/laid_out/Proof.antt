@@ -39,10 +39,10 @@ returns-3 : tie.Need-returns-3
 returns-3 c = laid-no-lags _ (omega arith) (sym (c .enum-told2 .given .1) ∙ c .before .before .count-at2 .ensures)
 
 -- the two counts, where both are known
-is-events : (c : tie.After-known-told2) → Is (c .before .before .before .before .before .n .given .0 .0) ≡ count-of (at (c .before .before .before .before .before .before .before .before .before .args .numbers .now) 4) (pos 64)
+is-events : (c : tie.After-known-told2) → Is (c .before .before .before .before .before .n .given .0 .0) ≡ count-of (at (c .before .before .before .before .before .before .before .before .before .args .numbers .now) 5) (pos 64)
 is-events c = sym (c .before .before .before .before .before .n .given .1) ∙ c .before .before .before .before .before .before .before .count-at .ensures
 
-is-lags : (c : tie.After-known-told2) → Is (c .before .m .given .0 .0) ≡ count-of (at (c .before .before .before .before .before .before .before .before .before .args .numbers .now) 5) (pos 256)
+is-lags : (c : tie.After-known-told2) → Is (c .before .m .given .0 .0) ≡ count-of (at (c .before .before .before .before .before .before .before .before .before .args .numbers .now) 6) (pos 256)
 is-lags c = sym (c .before .m .given .1) ∙ c .before .before .before .count-at2 .ensures
 
 small : (c : tie.After-known-told2) → (c .before .before .before .before .before .n .given .0 .0 ≤ 64) × (c .before .m .given .0 .0 ≤ 256)
