@@ -1,6 +1,6 @@
 // Runs the cases that standard input holds, one after the other, and prints each with its words.
 // A case is a line that names it, with a number sign in front, then numbers in the layout of a stream's record (`second/README.md`):
-// 1 planner or 2 reader, H, Lmin, Lmax, Q, the words of the window table, of the lag table, of the buffer or list; then these words.
+// 1 planner or 2 reader, H, Lmin, Lmax, Q, cover, the words of the window table, of the lag table, of the buffer or list; then these words.
 mod print;
 
 use print::judged;
@@ -53,6 +53,7 @@ fn call(numbers: &[i32; 1030], table: &mut [i32], lags: &[i32], list: &mut [i32]
             numbers[2],
             numbers[3],
             numbers[4],
+            numbers[5],
             table,
             lags,
             list,
@@ -74,6 +75,7 @@ fn call(numbers: &[i32; 1030], table: &mut [i32], lags: &[i32], list: &mut [i32]
         numbers[2],
         numbers[3],
         numbers[4],
+        numbers[5],
         table,
         lags,
         list,
@@ -85,11 +87,11 @@ fn call(numbers: &[i32; 1030], table: &mut [i32], lags: &[i32], list: &mut [i32]
 
 // A case's three tables, cut out of its numbers.
 fn cut(numbers: &[i32; 1030], table: &mut [i32], lags: &mut [i32], list: &mut [i32])
-    requires { ⌜ 8 + length (now table) + length (now lags) + length (now list) ≤ 1030 ⌝ }
+    requires { ⌜ 9 + length (now table) + length (now lags) + length (now list) ≤ 1030 ⌝ }
 {
-    let g = 8 + table.len();
+    let g = 9 + table.len();
     let b = g + lags.len();
-    copy(numbers, 8, table);
+    copy(numbers, 9, table);
     copy(numbers, g, lags);
     copy(numbers, b, list);
     call(numbers, table, lags, list);
@@ -103,9 +105,9 @@ fn sized(
     lags: &mut [i32],
     list: &mut [i32],
 ) -> bool {
-    let w = size(numbers[5]);
-    let g = size(numbers[6]);
-    let b = size(numbers[7]);
+    let w = size(numbers[6]);
+    let g = size(numbers[7]);
+    let b = size(numbers[8]);
     if table.len() < w {
         return false;
     }
@@ -118,7 +120,7 @@ fn sized(
     if 1030 < n {
         return false;
     }
-    if n != 8 + w + g + b {
+    if n != 9 + w + g + b {
         return false;
     }
     cut(numbers, &mut table[..w], &mut lags[..g], &mut list[..b]);

@@ -194,13 +194,14 @@ pub fn check(
     low: i32,
     high: i32,
     q: i32,
+    cover: i32,
     table: &mut [i32],
     lags: &[i32],
     list: &[i32],
 ) -> Judgement
-    ensures answer { λ v. ⌜ reply-of v ≡ check (job h low high q (now (table .entry)) (now (lags .entry))) (now (list .entry)) .reply ⌝ }
-    ensures windows { λ v. ⌜ now (table .exit) ≡ check (job h low high q (now (table .entry)) (now (lags .entry))) (now (list .entry)) .table ⌝ }
+    ensures answer { λ v. ⌜ reply-of v ≡ check (job h low high q cover (now (table .entry)) (now (lags .entry))) (now (list .entry)) .reply ⌝ }
+    ensures windows { λ v. ⌜ now (table .exit) ≡ check (job h low high q cover (now (table .entry)) (now (lags .entry))) (now (list .entry)) .table ⌝ }
 {
-    let k = job_of(h, low, high, q, table.len() / 4);
+    let k = job_of(h, low, high, q, cover, table.len() / 4);
     read_list(k, table, lags, list)
 }

@@ -15,7 +15,7 @@ use Rattle.model.specs.Job.{Windows, windows, widest, Reservoir, Job, events}
 use Rattle.model.specs.Rules.{own-end, bound, effect, is-narrowing}
 use Rattle.model.specs.Slips.{Explanation, slip-length, premise-count, slip-at, rule-of, target-of}
 use Rattle.model.specs.Rounds.{Verdict, settled, conflict, stopped, still-open}
-use Rattle.model.specs.Questions.{Check, pass, refuse, _then_, ask, each, horizon-right, limits-right, stock-right, events-whole, times-right, heights-right, lags-whole, lag-events, lag-differs, lag-in-range, room-right, cage-questions, window-questions, lag-questions, own-questions, questions}
+use Rattle.model.specs.Questions.{Check, pass, refuse, _then_, ask, each, horizon-right, limits-right, stock-right, cover-right, events-whole, times-right, heights-right, lags-whole, lag-events, lag-differs, lag-in-range, room-right, cage-questions, window-questions, lag-questions, own-questions, questions}
 use Rattle.model.specs.Planner.{refused, done, Outcome, plan}
 use Rattle.model.specs.Reader.{whole, reading, names, all-true, narrowed, is-conflict, gives, slip-questions, applied, Read, read-from, stop-of, counted, marked, ends-right, read-all, accepted, judged, check}
 use Rattle.model.proofs.Questions.{then-out, ask-out, asked}
@@ -70,7 +70,8 @@ few q m k whole-entries l e =
 -- Questions 1 to 11, part by part.
 cage-low : (h : ℤ) (c : Reservoir) → Low (cage-questions h c)
 cage-low h c =
-    then-low (ask 1 (horizon-right h)) _ (ask-low 1 (horizon-right h) (omega arith)) (λ _. then-low (ask 2 (limits-right c)) _ (ask-low 2 (limits-right c) (omega arith)) (λ _. ask-low 3 (stock-right c) (omega arith)))
+    then-low (ask 1 (horizon-right h)) _ (ask-low 1 (horizon-right h) (omega arith)) (λ _. then-low (ask 2 (limits-right c)) _ (ask-low 2 (limits-right c) (omega arith))
+    (λ _. then-low (ask 3 (stock-right c)) _ (ask-low 3 (stock-right c) (omega arith)) (λ _. ask-low 22 (cover-right c) (omega arith))))
 
 window-low : (h : ℤ) (table : List ℤ) → Low (window-questions h table)
 window-low h table =

@@ -106,17 +106,18 @@ pub extern "C" fn orthmuzi_plan(
     low: i32,
     high: i32,
     q: i32,
+    cover: i32,
     table: &mut [i32],
     lags: &[i32],
     buffer: &mut [i32],
     words: &mut [i32],
 ) -> i32
-    ensures number { λ r. ⌜ r ≡ pos (numbers-of (plan (job h low high q (now (table .entry)) (now (lags .entry))) (now (buffer .entry)) .reply) .number) ⌝ }
-    ensures answer { λ r. ⌜ now (words .exit) ≡ told (numbers-of (plan (job h low high q (now (table .entry)) (now (lags .entry))) (now (buffer .entry)) .reply)) (now (words .entry)) ⌝ }
-    ensures windows { λ r. ⌜ now (table .exit) ≡ plan (job h low high q (now (table .entry)) (now (lags .entry))) (now (buffer .entry)) .table ⌝ }
-    ensures slips { λ r. ⌜ now (buffer .exit) ≡ plan (job h low high q (now (table .entry)) (now (lags .entry))) (now (buffer .entry)) .buffer ⌝ }
+    ensures number { λ r. ⌜ r ≡ pos (numbers-of (plan (job h low high q cover (now (table .entry)) (now (lags .entry))) (now (buffer .entry)) .reply) .number) ⌝ }
+    ensures answer { λ r. ⌜ now (words .exit) ≡ told (numbers-of (plan (job h low high q cover (now (table .entry)) (now (lags .entry))) (now (buffer .entry)) .reply)) (now (words .entry)) ⌝ }
+    ensures windows { λ r. ⌜ now (table .exit) ≡ plan (job h low high q cover (now (table .entry)) (now (lags .entry))) (now (buffer .entry)) .table ⌝ }
+    ensures slips { λ r. ⌜ now (buffer .exit) ≡ plan (job h low high q cover (now (table .entry)) (now (lags .entry))) (now (buffer .entry)) .buffer ⌝ }
 {
-    let a = plan(h, low, high, q, table, lags, buffer);
+    let a = plan(h, low, high, q, cover, table, lags, buffer);
     tell(planned(a), words)
 }
 
@@ -128,15 +129,16 @@ pub extern "C" fn orthmuzi_read(
     low: i32,
     high: i32,
     q: i32,
+    cover: i32,
     table: &mut [i32],
     lags: &[i32],
     list: &[i32],
     words: &mut [i32],
 ) -> i32
-    ensures number { λ r. ⌜ r ≡ pos (numbers-of (check (job h low high q (now (table .entry)) (now (lags .entry))) (now (list .entry)) .reply) .number) ⌝ }
-    ensures answer { λ r. ⌜ now (words .exit) ≡ told (numbers-of (check (job h low high q (now (table .entry)) (now (lags .entry))) (now (list .entry)) .reply)) (now (words .entry)) ⌝ }
-    ensures windows { λ r. ⌜ now (table .exit) ≡ check (job h low high q (now (table .entry)) (now (lags .entry))) (now (list .entry)) .table ⌝ }
+    ensures number { λ r. ⌜ r ≡ pos (numbers-of (check (job h low high q cover (now (table .entry)) (now (lags .entry))) (now (list .entry)) .reply) .number) ⌝ }
+    ensures answer { λ r. ⌜ now (words .exit) ≡ told (numbers-of (check (job h low high q cover (now (table .entry)) (now (lags .entry))) (now (list .entry)) .reply)) (now (words .entry)) ⌝ }
+    ensures windows { λ r. ⌜ now (table .exit) ≡ check (job h low high q cover (now (table .entry)) (now (lags .entry))) (now (list .entry)) .table ⌝ }
 {
-    let v = check(h, low, high, q, table, lags, list);
+    let v = check(h, low, high, q, cover, table, lags, list);
     tell(judged(v), words)
 }

@@ -30,8 +30,8 @@ pub told : {s : Scan} {t : List ℤ} {buffer : List ℕ} {n : ℕ} → Heard s t
 told h p = record { pieces = h .pieces; all = h .all; prints = p .are ∙ ap answered (h .says) }
 
 -- The planner's reply and its windows, printed.
-pub planned-text : (w l : List ℤ) {h low high q h′ low′ high′ q′ : ℤ} {reply : Reply} {u : List ℤ} {buffer : List ℕ} {n : ℕ} → h′ ≡ h → low′ ≡ low → high′ ≡ high → q′ ≡ q → reply ≡ plan (job h′ low′ high′ q′ w l) slip-room .reply → u ≡ plan (job h′ low′ high′ q′ w l) slip-room .table → Printed buffer n (printed reply u) → Printed buffer n (answered (parsed (job h low high q w l)))
-planned-text w l e₁ e₂ e₃ e₄ f g p = rw (← e₁, ← e₂, ← e₃, ← e₄) (printed-as (rw (f, g)) p)
+pub planned-text : (w l : List ℤ) {h low high q cover h′ low′ high′ q′ cover′ : ℤ} {reply : Reply} {u : List ℤ} {buffer : List ℕ} {n : ℕ} → h′ ≡ h → low′ ≡ low → high′ ≡ high → q′ ≡ q → cover′ ≡ cover → reply ≡ plan (job h′ low′ high′ q′ cover′ w l) slip-room .reply → u ≡ plan (job h′ low′ high′ q′ cover′ w l) slip-room .table → Printed buffer n (printed reply u) → Printed buffer n (answered (parsed (job h low high q cover w l)))
+planned-text w l e₁ e₂ e₃ e₄ e₅ f g p = rw (← e₁, ← e₂, ← e₃, ← e₄, ← e₅) (printed-as (rw (f, g)) p)
 
 -- ---- what is handed over
 
@@ -49,11 +49,11 @@ module _ {l : Layout} {t : List ℤ} {j : Parsed Job} (handed : Handed l t j) wh
   handed-room e = rw e at (handed .roomy)
 
 -- The job in a table, from its words.
-pub job-at : (t : List ℤ) (s : Sizes) {h low high q : ℤ} {w : List ℤ} → h ≡ at t 0 → low ≡ at t 1 → high ≡ at t 2 → q ≡ at t 3 → w ≡ take (6 + 4 * s .events - 6) (drop 6 t) → parsed (job h low high q w (take (6 + 4 * s .events + 3 * s .lags - (6 + 4 * s .events)) (drop (6 + 4 * s .events) t))) ≡ parsed (job-in t s)
-job-at t s e₁ e₂ e₃ e₄ f =
-    let a : 6 + 4 * s .events - 6 ≡ 4 * s .events = omega arith in
-    let b : 6 + 4 * s .events + 3 * s .lags - (6 + 4 * s .events) ≡ 3 * s .lags = omega arith in
-    rw (e₁, e₂, e₃, e₄, f, a, b)
+pub job-at : (t : List ℤ) (s : Sizes) {h low high q cover : ℤ} {w : List ℤ} → h ≡ at t 0 → low ≡ at t 1 → high ≡ at t 2 → q ≡ at t 3 → cover ≡ at t 4 → w ≡ take (7 + 4 * s .events - 7) (drop 7 t) → parsed (job h low high q cover w (take (7 + 4 * s .events + 3 * s .lags - (7 + 4 * s .events)) (drop (7 + 4 * s .events) t))) ≡ parsed (job-in t s)
+job-at t s e₁ e₂ e₃ e₄ e₅ f =
+    let a : 7 + 4 * s .events - 7 ≡ 4 * s .events = omega arith in
+    let b : 7 + 4 * s .events + 3 * s .lags - (7 + 4 * s .events) ≡ 3 * s .lags = omega arith in
+    rw (e₁, e₂, e₃, e₄, e₅, f, a, b)
 
 -- ---- words copied
 

@@ -53,15 +53,16 @@ fn planned(
     low: i32,
     high: i32,
     q: i32,
+    cover: i32,
     windows: &mut [i32],
     lags: &[i32],
     out: &mut [u8],
 ) -> usize
     requires { ⌜ (length (now windows) ≤ 256) × (8192 ≤ length (now out)) ⌝ }
-    ensures { λ r. ⌜ Printed (now (out .exit)) r (answered (parsed (job h low high q (now (windows .entry)) (now (lags .entry))))) ⌝ }
+    ensures { λ r. ⌜ Printed (now (out .exit)) r (answered (parsed (job h low high q cover (now (windows .entry)) (now (lags .entry))))) ⌝ }
 {
     let mut room = [0i32; 16000];
-    let a = plan(h, low, high, q, windows, lags, &mut room);
+    let a = plan(h, low, high, q, cover, windows, lags, &mut room);
     report(a, windows, out)
 }
 
@@ -71,15 +72,16 @@ fn table_planned(s: Sizes, table: &[i32], space: &mut [i32], out: &mut [u8]) -> 
     ensures { λ r. ⌜ Printed (now (out .exit)) r (answered (parsed (job-in (now (table .entry)) s))) ⌝ }
 {
     let words = 4 * s.events;
-    let lags = 6 + words;
+    let lags = 7 + words;
     let end = lags + 3 * s.lags;
     let windows = &mut space[..words];
-    copy(&table[6..lags], windows);
+    copy(&table[7..lags], windows);
     planned(
         table[0],
         table[1],
         table[2],
         table[3],
+        table[4],
         windows,
         &table[lags..end],
         out,
@@ -118,7 +120,7 @@ fn read_some(s: Scan, table: &mut [i32]) -> Taken
 
 // Reads to the end of the input. A proved loop has to end, and nothing says that the input does: it counts its turns down from a number that no run uses up.
 fn read_all(table: &mut [i32]) -> Scan
-    requires { ⌜ 1030 ≤ length (now table) ⌝ }
+    requires { ⌜ 1031 ≤ length (now table) ⌝ }
     ensures { λ r. ⌜ Heard r (now (table .exit)) ⌝ }
 {
     let mut scan = scanner::start();

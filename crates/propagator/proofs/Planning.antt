@@ -79,8 +79,8 @@ module _ {k : Job} {ws table b buffer b′ buffer′ : List ℤ} {e : Ended} (l 
 -- ---- the planner
 
 -- The job at hand is of the call with these numbers.
-pub of-call : {k : Job} {h h′ low low′ high high′ q q′ : ℤ} {table ws : List ℤ} → h′ ≡ h → low′ ≡ low → high′ ≡ high → q′ ≡ q → Holds k ws (job h′ low′ high′ q′ table ws) → Holds k ws (job h low high q table ws)
-of-call a b c d x = rw (a, b, c, d) at x
+pub of-call : {k : Job} {h h′ low low′ high high′ q q′ cover cover′ : ℤ} {table ws : List ℤ} → h′ ≡ h → low′ ≡ low → high′ ≡ high → q′ ≡ q → cover′ ≡ cover → Holds k ws (job h′ low′ high′ q′ cover′ table ws) → Holds k ws (job h low high q cover table ws)
+of-call a b c d e x = rw (a, b, c, d, e) at x
 
 -- A call, the job at hand that is of it, and what its questions came to.
 module _ (j : Call) (buffer : List ℤ) {k : Job} {x : Check} (h : Holds k (j .lag-table) j) (e : check-of x ≡ questions j (length buffer)) where

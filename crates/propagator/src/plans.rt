@@ -86,15 +86,16 @@ pub fn plan(
     low: i32,
     high: i32,
     q: i32,
+    cover: i32,
     table: &mut [i32],
     lags: &[i32],
     buffer: &mut [i32],
 ) -> Answer
-    ensures answer { λ r. ⌜ reply-of r ≡ plan (job h low high q (now (table .entry)) (now (lags .entry))) (now (buffer .entry)) .reply ⌝ }
-    ensures windows { λ r. ⌜ now (table .exit) ≡ plan (job h low high q (now (table .entry)) (now (lags .entry))) (now (buffer .entry)) .table ⌝ }
-    ensures slips { λ r. ⌜ now (buffer .exit) ≡ plan (job h low high q (now (table .entry)) (now (lags .entry))) (now (buffer .entry)) .buffer ⌝ }
+    ensures answer { λ r. ⌜ reply-of r ≡ plan (job h low high q cover (now (table .entry)) (now (lags .entry))) (now (buffer .entry)) .reply ⌝ }
+    ensures windows { λ r. ⌜ now (table .exit) ≡ plan (job h low high q cover (now (table .entry)) (now (lags .entry))) (now (buffer .entry)) .table ⌝ }
+    ensures slips { λ r. ⌜ now (buffer .exit) ≡ plan (job h low high q cover (now (table .entry)) (now (lags .entry))) (now (buffer .entry)) .buffer ⌝ }
 {
-    let k = job_of(h, low, high, q, table.len() / 4);
+    let k = job_of(h, low, high, q, cover, table.len() / 4);
     let check = questions(k, table, lags, buffer.len());
     match check {
         Check::Refuse(r) => refused(r, table),

@@ -71,23 +71,24 @@ pub fn plan_and_read(
     low: i32,
     high: i32,
     q: i32,
+    cover: i32,
     table: &mut [i32],
     lags: &[i32],
     buffer: &mut [i32],
 ) -> Checked
     ensures { λ r. ⌜
-        Assured (job h low high q (now (table .entry)) (now (lags .entry))) (now (buffer .entry)) (now (table .exit)) (now (buffer .exit)) r
+        Assured (job h low high q cover (now (table .entry)) (now (lags .entry))) (now (buffer .entry)) (now (table .exit)) (now (buffer .exit)) r
         ⌝ }
 {
     let n = table.len();
     let mut copy = [0i32; 256];
     keep(table, &mut copy);
-    let answer = plan(h, low, high, q, table, lags, buffer);
+    let answer = plan(h, low, high, q, cover, table, lags, buffer);
     let w = list_of(answer);
     match w {
         Written::Nothing(r) => unread(answer, r),
         Written::Listed(len) => {
-            let judgement = check(h, low, high, q, &mut copy[..n], lags, &buffer[..len]);
+            let judgement = check(h, low, high, q, cover, &mut copy[..n], lags, &buffer[..len]);
             Checked {
                 answer: answer,
                 judgement: judgement,

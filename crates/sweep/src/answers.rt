@@ -67,7 +67,7 @@ fn call(
     out: &mut [u8; 65536],
     at: usize,
     kind: i32,
-    head: &[i32; 7],
+    head: &[i32; 8],
     table: &mut [i32],
     lags: &[i32],
     list: &mut [i32],
@@ -76,10 +76,14 @@ fn call(
     ensures { λ r. ⌜ r ≤ 65536 ⌝ }
 {
     if kind == 1 {
-        let answer = propagator::plans::plan(head[0], head[1], head[2], head[3], table, lags, list);
+        let answer = propagator::plans::plan(
+            head[0], head[1], head[2], head[3], head[4], table, lags, list,
+        );
         return planned(out, at, answer);
     }
-    let judgement = checker::check(head[0], head[1], head[2], head[3], table, lags, list);
+    let judgement = checker::check(
+        head[0], head[1], head[2], head[3], head[4], table, lags, list,
+    );
     judged(out, at, judgement)
 }
 
@@ -87,7 +91,7 @@ pub fn answer(
     out: &mut [u8; 65536],
     at: usize,
     kind: i32,
-    head: &[i32; 7],
+    head: &[i32; 8],
     table: &mut [i32],
     lags: &[i32],
     list: &mut [i32],

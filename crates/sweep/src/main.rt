@@ -1,5 +1,5 @@
 // Answers a stream of records, a line each, just as the second program's `answers` does. `.ci/run` compares the two on a large stream;
-// the stored `stdin` is `second stream 228 40 160`, in which the reader refuses by each of its numbers.
+// the stored `stdin` is `second stream 597 40 160`, in which the reader refuses by each of its numbers, and the two by every number that both ask.
 // A record beyond the limits, an unknown one, or a stream cut short ends the program with a line that says so.
 mod answers;
 mod input;
@@ -53,7 +53,7 @@ fn record(
     out: &mut [u8; 65536],
     s: State,
     kind: i32,
-    head: &[i32; 7],
+    head: &[i32; 8],
     table: &mut [i32],
     lags: &mut [i32],
     list: &mut [i32],
@@ -80,7 +80,7 @@ fn sized(
     out: &mut [u8; 65536],
     s: State,
     kind: i32,
-    head: &[i32; 7],
+    head: &[i32; 8],
     table: &mut [i32],
     lags: &mut [i32],
     list: &mut [i32],
@@ -88,15 +88,15 @@ fn sized(
     requires { ⌜ s .at ≤ 65536 ⌝ }
     ensures { λ r. ⌜ r .at ≤ 65536 ⌝ }
 {
-    let w = size(head[4]);
+    let w = size(head[5]);
     if table.len() < w {
         return stop(out, s, b"a window table is too long\n");
     }
-    let g = size(head[5]);
+    let g = size(head[6]);
     if lags.len() < g {
         return stop(out, s, b"a lag table is too long\n");
     }
-    let b = size(head[6]);
+    let b = size(head[7]);
     if list.len() < b {
         return stop(out, s, b"a list is too long\n");
     }
@@ -138,7 +138,7 @@ fn step(
     if !is_call(kind) {
         return stop(out, s, b"an unknown kind of record\n");
     }
-    let mut head = [0i32; 7];
+    let mut head = [0i32; 8];
     let filled = fill(piece, input, &mut head);
     let Filled::All(input) = filled else {
         return stop(out, s, b"the stream is cut short\n");

@@ -19,7 +19,7 @@ returns : tie.Need-returns
 returns c =
     let a = c .before .before .before .before .args in
     let f = c .before .before .before .before .fits in
-    let h = rw (toZ-ofZ (f .h), toZ-ofZ (f .low), toZ-ofZ (f .high), toZ-ofZ (f .q)) at (c .before .before .before .job-of .ensures (a .table .now) (a .lags .now) refl) in
+    let h = rw (toZ-ofZ (f .h), toZ-ofZ (f .low), toZ-ofZ (f .high), toZ-ofZ (f .q), toZ-ofZ (f .cover)) at (c .before .before .before .job-of .ensures (a .table .now) (a .lags .now) refl) in
     let o = rw (call-is h) at (c .before .read-list .ensures) in
     (o .answer, o .windows)
 

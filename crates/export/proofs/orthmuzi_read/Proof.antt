@@ -21,7 +21,7 @@ tell-requires : tie.Need-tell-requires
 tell-requires c κs =
     let s = c .before .before .before .before .before in
     let a = c .before .before .before .check .ensures .0 in
-    let same = job-same (toZ-ofZ (s .fits .h)) (toZ-ofZ (s .fits .low)) (toZ-ofZ (s .fits .high)) (toZ-ofZ (s .fits .q)) (s .args .table .now) (s .args .lags .now) in
+    let same = job-same (toZ-ofZ (s .fits .h)) (toZ-ofZ (s .fits .low)) (toZ-ofZ (s .fits .high)) (toZ-ofZ (s .fits .q)) (toZ-ofZ (s .fits .cover)) (s .args .table .now) (s .args .lags .now) in
     rw (c .before .judged .ensures, a, same)
     (check-small (job (s .args .h) (s .args .low) (s .args .high) (s .args .q) (s .args .table .now) (s .args .lags .now)) (s .args .list .now))
 
@@ -34,7 +34,7 @@ same-length-2 c = search needs
 returns : tie.Need-returns
 returns c =
     let s = c .before .before .before .before .before .before .before in
-    let same = job-same (toZ-ofZ (s .fits .h)) (toZ-ofZ (s .fits .low)) (toZ-ofZ (s .fits .high)) (toZ-ofZ (s .fits .q)) (s .args .table .now) (s .args .lags .now) in
+    let same = job-same (toZ-ofZ (s .fits .h)) (toZ-ofZ (s .fits .low)) (toZ-ofZ (s .fits .high)) (toZ-ofZ (s .fits .q)) (toZ-ofZ (s .fits .cover)) (s .args .table .now) (s .args .lags .now) in
     let p = c .before .before .before .before .before .check .ensures in
     let a = c .before .before .before .judged .ensures
     ∙ ap numbers-of (rw same at (p .0)) in

@@ -54,6 +54,9 @@ shared-slice-copy-out-planned-3 c = search needs
 shared-slice-copy-out-planned-4 : tie.Need-shared-slice-copy-out-planned-4
 shared-slice-copy-out-planned-4 c = search needs
 
+shared-slice-copy-out-planned-5 : tie.Need-shared-slice-copy-out-planned-5
+shared-slice-copy-out-planned-5 c = search needs
+
 mul-planned : tie.Need-mul-planned
 mul-planned c = search needs
 
@@ -84,7 +87,7 @@ returns c =
     let t = k .before .before .before .before .before .before .before .before .before .before .before .before .before .before .before .args in
     answered-as
     (job-at (t .table .now) (t .s)
-    (back32 (at (t .table .now) 0) (search)) (back32 (at (t .table .now) 1) (search)) (back32 (at (t .table .now) 2) (search)) (back32 (at (t .table .now) 3) (search))
+    (back32 (at (t .table .now) 0) (search)) (back32 (at (t .table .now) 1) (search)) (back32 (at (t .table .now) 2) (search)) (back32 (at (t .table .now) 3) (search)) (back32 (at (t .table .now) 4) (search))
     (k .before .before .before .before .before .before .before .before .copy .ensures))
     (k .planned .ensures)
 
@@ -106,6 +109,7 @@ table-planned-spec =
     shared-slice-copy-out-planned-2
     shared-slice-copy-out-planned-3
     shared-slice-copy-out-planned-4
+    shared-slice-copy-out-planned-5
     mul-planned
     sub-planned
     part-planned-start

@@ -26,8 +26,8 @@ planned-requires : tie.Need-planned-requires
 planned-requires c κs =
     let s = c .before .before .before .before .before .before .before in
     let a = s .args in
-    let j = job (a .h) (a .low) (a .high) (a .q) (a .table .now) (a .lags .now) in
-    let h = of-call (toZ-ofZ (s .fits .h)) (toZ-ofZ (s .fits .low)) (toZ-ofZ (s .fits .high)) (toZ-ofZ (s .fits .q)) (c .before .before .before .before .before .before .job-of .ensures (a .table .now) (a .lags .now) refl) in
+    let j = job (a .h) (a .low) (a .high) (a .q) (a .cover) (a .table .now) (a .lags .now) in
+    let h = of-call (toZ-ofZ (s .fits .h)) (toZ-ofZ (s .fits .low)) (toZ-ofZ (s .fits .high)) (toZ-ofZ (s .fits .q)) (toZ-ofZ (s .fits .cover)) (c .before .before .before .before .before .before .job-of .ensures (a .table .now) (a .lags .now) refl) in
     plan-asks j (a .buffer .now) h (c .before .before .before .before .questions .ensures j h refl) (c .before .before .enum-told .given .1)
 
 same-length : tie.Need-same-length
@@ -38,7 +38,7 @@ returns c =
     let s = c .before .before .before .before .before .before .before .before .before in
     let a = s .args in
     let j = job (a .h) (a .low) (a .high) (a .q) (a .table .now) (a .lags .now) in
-    let h = of-call (toZ-ofZ (s .fits .h)) (toZ-ofZ (s .fits .low)) (toZ-ofZ (s .fits .high)) (toZ-ofZ (s .fits .q)) (c .before .before .before .before .before .before .before .before .job-of .ensures (a .table .now) (a .lags .now) refl) in
+    let h = of-call (toZ-ofZ (s .fits .h)) (toZ-ofZ (s .fits .low)) (toZ-ofZ (s .fits .high)) (toZ-ofZ (s .fits .q)) (toZ-ofZ (s .fits .cover)) (c .before .before .before .before .before .before .before .before .job-of .ensures (a .table .now) (a .lags .now) refl) in
     let o = plan-refused j (a .buffer .now) h (c .before .before .before .before .before .before .questions .ensures j h refl) (c .before .before .before .before .check .given .1) (c .before .refused .ensures) in
     (o .answer, (o .windows, o .slips))
 
@@ -52,8 +52,8 @@ returns-2 : tie.Need-returns-2
 returns-2 c =
     let s = c .before .before .before .before .before .before .before .before .before .before in
     let a = s .args in
-    let j = job (a .h) (a .low) (a .high) (a .q) (a .table .now) (a .lags .now) in
-    let h = of-call (toZ-ofZ (s .fits .h)) (toZ-ofZ (s .fits .low)) (toZ-ofZ (s .fits .high)) (toZ-ofZ (s .fits .q)) (c .before .before .before .before .before .before .before .before .before .job-of .ensures (a .table .now) (a .lags .now) refl) in
+    let j = job (a .h) (a .low) (a .high) (a .q) (a .cover) (a .table .now) (a .lags .now) in
+    let h = of-call (toZ-ofZ (s .fits .h)) (toZ-ofZ (s .fits .low)) (toZ-ofZ (s .fits .high)) (toZ-ofZ (s .fits .q)) (toZ-ofZ (s .fits .cover)) (c .before .before .before .before .before .before .before .before .before .job-of .ensures (a .table .now) (a .lags .now) refl) in
     let o = plan-passed j (a .buffer .now) h (c .before .before .before .before .before .before .before .questions .ensures j h refl) (c .before .before .before .before .before .enum-told .given .1) (c .before .before .planned .ensures j h) in
     (o .answer, (o .windows, o .slips))
 
