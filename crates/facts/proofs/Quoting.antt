@@ -1,6 +1,6 @@
 -- Which facts a slip quotes and what it says of them, as `facts::premises` computes it.
 -- Assumes nothing.
-use mathlib.Core.Path.{_≡_, refl, sym, _∙_}
+use mathlib.Core.Path.{_≡_, refl, sym, ap, _∙_}
 use mathlib.Core.Bool.{Bool, true, false, not, cond, _&&_, _||_}
 use mathlib.Core.List.{List}
 use Prim.Native.Nat.{ℕ, zero, suc, _+_, _/_, _<_, _≤_}
@@ -13,17 +13,19 @@ use lib.ListN.{length}
 use Rattle.integers.specs.Range.{Within}
 use Rattle.integers.proofs.Linear.{ints, sub-law, neg-law}
 use Rattle.integers.proofs.Tests.{is-true}
-use Rattle.model.specs.Job.{End, t-min, t-max, h-min, h-max, Windows, Job as Call, produces, consumes}
+use Rattle.model.specs.Job.{End, t-min, t-max, h-min, h-max, Windows, Job as Call, events, sent, produces, consumes}
 use Rattle.model.specs.Standing.{span}
-use Rattle.model.specs.View.{side, side-value, side-end, View}
-use Rattle.model.specs.Levels.{Place, place, e-min, e-max}
+use Rattle.model.specs.View.{side, side-value, side-end, View, view, seen}
+use Rattle.model.specs.Levels.{Place, sure, possible, never, place, e-min, e-max}
 use Rattle.model.specs.Rules.{Family, level, time, height, reservoir, rule, targeted, Effect, idle, narrows, fails, failed, is-narrowing}
-use Rattle.model.specs.Facts.{lag-cites, any, first-late, last-early, left-out, surely-consumed, late, early, latest, quotes-top, spares, family-cites, family-says, quotes, quoted}
-use Rattle.tables.specs.Job.{reservoir-of, Fit}
+use Rattle.model.specs.Facts.{lag-cites, any, first-late, last-early, left-out, surely-consumed, late, early, latest, quotes-top, spares, drops, family-cites, family-says, quotes, quoted}
+use Rattle.model.proofs.Agree.{at-hand, cites-agree, says-agree}
+use Rattle.tables.specs.Job.{reservoir-of, Kinds, Fit}
 use Rattle.tables.specs.declared.Job.{Job}
 use Rattle.tables.specs.declared.Time.{Time}
-use Rattle.levels.specs.Values.{place-by, as-view, seen-by, Views}
+use Rattle.levels.specs.Values.{place-by, strict-at, as-view, seen-by, Views}
 use Rattle.levels.specs.declared.View.{View as Sight}
+use Rattle.levels.proofs.Viewing.{before-here}
 use Rattle.rules.specs.Values.{family-of, effect-of}
 use Rattle.rules.specs.declared.Effect.{Effect as Done}
 use Rattle.facts.specs.Quotes.{Any, lag-cited, lag-said, height-cited, level-cited, level-said, LagCites, LevelCites, Cites, Quotes}
@@ -59,12 +61,12 @@ module _ (E : View) (W : Windows) (u v : ℤ) (y : ℕ) {p : Place} {h : ℤ} (a
   pub late-at : {r : Bool} → r ≡ left-out p h → (not (eqb y (E .subject)) && r) ≡ late E W u v y
   late-at q = cc
 
-module _ (c : LevelCiting) (W : Windows) (z : ℕ) {p : Place} {h : ℤ} (at : p ≡ place (as-view (c .view)) (seen-by (c .view) W) (c .from .0) (c .to .0) z) (high : h ≡ seen-by (c .view) W z h-max) where
+module _ (c : LevelCiting) (W : Windows) (z : ℕ) {p : Place} {h : ℤ} (at : p ≡ place (as-view (c .view) W) (seen-by (c .view) W) (c .from .0) (c .to .0) z) (high : h ≡ seen-by (c .view) W z h-max) where
   pub lower-at : {r : Bool} → r ≡ left-out p h → ((eqb z (c .view .subject) && c .starts) || (not (eqb z (c .view .subject)) && r)) ≡ level-cited c W z t-min
-  lower-at q = own-or (eqb z (c .view .subject)) (c .starts) _ ∙ rw (late-at (as-view (c .view)) (seen-by (c .view) W) (c .from .0) (c .to .0) z at high q)
+  lower-at q = own-or (eqb z (c .view .subject)) (c .starts) _ ∙ rw (late-at (as-view (c .view) W) (seen-by (c .view) W) (c .from .0) (c .to .0) z at high q)
 
   pub upper-at : {r : Bool} → r ≡ surely-consumed p h → ((eqb z (c .view .subject) && c .ends) || (not (eqb z (c .view .subject)) && r)) ≡ level-cited c W z t-max
-  upper-at q = own-or (eqb z (c .view .subject)) (c .ends) _ ∙ rw (early-at (as-view (c .view)) (seen-by (c .view) W) (c .from .0) (c .to .0) z at high q)
+  upper-at q = own-or (eqb z (c .view .subject)) (c .ends) _ ∙ rw (early-at (as-view (c .view) W) (seen-by (c .view) W) (c .from .0) (c .to .0) z at high q)
 
   pub height-at : {r : Bool} → r ≡ targeted p h → (not (c .spares && eqb z (c .target)) && r) ≡ height-cited c W z
   height-at q = cc
@@ -98,7 +100,7 @@ taken-height false false h e = refl
 
 module _
     (c : LevelCiting) (W : Windows) (z : ℕ) (another : z ≡ c .view .subject → ⊥) (s p : Bool) (h : ℤ)
-    (at : place-by s p ≡ place (as-view (c .view)) (seen-by (c .view) W) (c .from .0) (c .to .0) z) (high : h ≡ seen-by (c .view) W z h-max)
+    (at : place-by s p ≡ place (as-view (c .view) W) (seen-by (c .view) W) (c .from .0) (c .to .0) z) (high : h ≡ seen-by (c .view) W z h-max)
   where
     lower-other : level-cited c W z t-min ≡ left-out (place-by s p) h
     lower-other = rw (← at, ← high, ne-eqb z (c .view .subject) another)
@@ -184,14 +186,46 @@ height-back : (m : Bool) (W : Windows) (z : ℕ) (g : End → ℤ) → g h-min �
 height-back true W z g p q = (rw q (neg-neg (W z h-min)), rw p (neg-neg (W z h-max)))
 height-back false W z g p q = (sym p, sym q)
 
+-- A delivery not counted, and a pull surely counted, by their amounts; where "before" is meant of them.
+out-makes : (p : Place) (h : ℤ) → T (left-out p h) → produces h ≡ true
+out-makes sure h t = absurd t
+out-makes possible h t = absurd t
+out-makes never h t = is-true (produces h) t
+
+consumed-takes : (p : Place) (h : ℤ) → T (surely-consumed p h) → produces h ≡ false
+consumed-takes sure h t = omega ints
+consumed-takes possible h t = absurd t
+consumed-takes never h t = absurd t
+
+and-true : (b : Bool) → (b && true) ≡ b
+and-true true = refl
+and-true false = refl
+
+and-false : (b : Bool) → (b && false) ≡ false
+and-false true = refl
+and-false false = refl
+
+before-made : (m s l : Bool) (W : Windows) (z : ℕ) → produces (side m W z h-max) ≡ true → strict-at m s l W z ≡ (s || (not m && l))
+before-made true s l W z e = refl
+before-made false s l W z e = rw (e, and-true l)
+
+before-taken : (m s l : Bool) (W : Windows) (z : ℕ) → produces (side m W z h-max) ≡ false → strict-at m s l W z ≡ s
+before-taken true s l W z e = or-false s
+before-taken false s l W z e = rw (e, and-false l) (or-false s)
+
+-- What is said of an event that is quoted: e's own value, or another's.
+own-said : (own s q : Bool) (a : ℤ) {x y : ℤ} → T (cond own s (not own && q)) → (T q → x ≡ y) → cond own a x ≡ cond own a y
+own-said true s q a t f = refl
+own-said false s q a t f = f t
+
 module _
     (view : Sight) (f : Family) (W : Windows) (y : ℕ) (x : Effect)
     (u v after until : Time) (starts top ends spared : Bool)
-    (from : u .0 ≡ e-min (as-view view) (seen-by view W))
-    (to : v .0 ≡ latest f (e-max (as-view view) (seen-by view W)) x)
-    (next : after .0 ≡ first-late (view .strict) (v .0))
+    (from : u .0 ≡ e-min (as-view view W) (seen-by view W))
+    (to : v .0 ≡ latest f (e-max (as-view view W) (seen-by view W)) x)
+    (next : after .0 ≡ first-late (view .strict || (not (view .mirror) && view .later)) (v .0))
     (last : until .0 ≡ last-early (view .strict) (u .0))
-    (others : Any (view .events) (as-view view) (seen-by view W) (u .0) (v .0) (record { early = starts; late = ends }))
+    (others : Any (view .events) (as-view view W) (seen-by view W) (u .0) (v .0) (record { early = starts; late = ends }))
     (tops : top ≡ quotes-top f)
     (spare : spared ≡ spares f x)
   where
@@ -199,10 +233,10 @@ module _
     held = record { view = view; from = u; to = v; after = after; until = until; starts = starts; ends = top && ends; spares = spared; target = y }
 
     abbrev cites-here : ℕ → End → Bool
-    cites-here = family-cites f (as-view view) (seen-by view W) y x
+    cites-here = family-cites f (as-view view W) (seen-by view W) y x
 
     abbrev says-here : ℕ → End → ℤ
-    says-here = family-says f (as-view view) (seen-by view W) x
+    says-here = family-says f (as-view view W) (seen-by view W) x
 
     cites-lower : (z : ℕ) → level-cited held W z t-min ≡ cites-here z t-min
     cites-lower z = rw (others .early, from, to)
@@ -213,11 +247,26 @@ module _
     cites-high : (z : ℕ) → height-cited held W z ≡ cites-here z h-max
     cites-high z = rw (spare, from, to)
 
-    says-lower : (z : ℕ) → level-said held W z t-min ≡ says-here z t-min
-    says-lower z = rw (next, from, to)
+    abbrev own : ℕ → Bool
+    own z = eqb z (view .subject)
 
-    says-upper : (z : ℕ) → level-said held W z t-max ≡ says-here z t-max
-    says-upper z = rw (last, from, to)
+    abbrev stands-at : ℕ → Place
+    stands-at z = place (as-view view W) (seen-by view W) (u .0) (v .0) z
+
+    abbrev amount : ℕ → ℤ
+    amount z = seen-by view W z h-max
+
+    says-lower : (z : ℕ) → T (level-cited held W z t-min) → level-said held W z t-min ≡ says-here z t-min
+    says-lower z t =
+        rw (← from, ← to)
+        (own-said (own z) starts (left-out (stands-at z) (amount z)) (u .0) t
+        (λ o. next ∙ ap (λ b. first-late b (v .0)) (sym (before-made (view .mirror) (view .strict) (view .later) W z (out-makes (stands-at z) (amount z) o)))))
+
+    says-upper : (z : ℕ) → T (level-cited held W z t-max) → level-said held W z t-max ≡ says-here z t-max
+    says-upper z t =
+        rw (← from, ← to)
+        (own-said (own z) (top && ends) (surely-consumed (stands-at z) (amount z)) (v .0) t
+        (λ o. last ∙ ap (λ b. last-early b (u .0)) (sym (before-taken (view .mirror) (view .strict) (view .later) W z (consumed-takes (stands-at z) (amount z) o)))))
 
     pub level-cites : LevelCites f view W y x held
     level-cites = record { cites = all-cites; says = all-says }
@@ -228,11 +277,25 @@ module _
         all-cites z h-min = height-end (view .mirror) (cites-here z) (cites-high z) refl .0
         all-cites z h-max = height-end (view .mirror) (cites-here z) (cites-high z) refl .1
 
-        all-says : (z : ℕ) (k : End) → level-said held W z k ≡ side-value (view .mirror) k (says-here z (side-end (view .mirror) k))
-        all-says z t-min = says-lower z ∙ time-back (view .mirror) (says-here z) .0
-        all-says z t-max = says-upper z ∙ time-back (view .mirror) (says-here z) .1
-        all-says z h-min = height-back (view .mirror) W z (says-here z) refl refl .0
-        all-says z h-max = height-back (view .mirror) W z (says-here z) refl refl .1
+        all-says : (z : ℕ) (k : End) → T (level-cited held W z k) → level-said held W z k ≡ side-value (view .mirror) k (says-here z (side-end (view .mirror) k))
+        all-says z t-min t = says-lower z t ∙ time-back (view .mirror) (says-here z) .0
+        all-says z t-max t = says-upper z t ∙ time-back (view .mirror) (says-here z) .1
+        all-says z h-min t = height-back (view .mirror) W z (says-here z) refl refl .0
+        all-says z h-max t = height-back (view .mirror) W z (says-here z) refl refl .1
+
+-- ---- in a call
+
+-- On windows that show a call's deliveries, facts may be told by the amounts at hand.
+module _ (j : Call) (m b : Bool) (e : ℕ) (W : Windows) (kinds : Kinds (events j) W (sent j)) (f : Family) where
+  call-cites : (y : ℕ) (x : Effect) (z : ℕ) → z < events j → (k : End) → family-cites f (view j m b e) (seen j m e W) y x z k ≡ family-cites f (at-hand j m b e W) (seen j m e W) y x z k
+  call-cites y x =
+      cites-agree (view j m b e) (at-hand j m b e W .before) (before-here j m b e W kinds) (seen j m e W) (seen j m e W) (λ z l k. refl)
+      (e-min (view j m b e) (seen j m e W)) (latest f (e-max (view j m b e) (seen j m e W)) x) (quotes-top f) (drops f x y)
+
+  call-says : (x : Effect) (z : ℕ) → z < events j → (k : End) → family-says f (view j m b e) (seen j m e W) x z k ≡ family-says f (at-hand j m b e W) (seen j m e W) x z k
+  call-says x =
+      says-agree (view j m b e) (at-hand j m b e W .before) (before-here j m b e W kinds) (seen j m e W) (seen j m e W) (λ z l k. refl)
+      (e-min (view j m b e) (seen j m e W)) (latest f (e-max (view j m b e) (seen j m e W)) x)
 
 -- ---- by number
 
@@ -259,19 +322,25 @@ lag-known {g = g} f t l = let s = f .lag g t in (rw (l .a-is) (s .real-a), rw (l
 module _ {k : Job} {ws : List ℤ} (W : Windows) (r e y : ℕ) (x : Done) where
   pub cites-by-upper : {c : LagCiting} → Fit k ws → e < length ws / 3 → r ≡ 1 → LagCites (failed (effect-of x)) true ws e W c → Cites k ws W r e y x (Lag c)
   unfolding quotes quoted
-  cites-by-upper f t p l = record { known = lag-known f t l; cites = λ j h z i. rw p (lag-quotes l j (h .lags-are) z i); says = λ j h z i t. rw p (lag-says l z i t) }
+  cites-by-upper f t p l = record { known = lag-known f t l; cites = λ j h z m i. rw p (lag-quotes l j (h .holds .lags-are) z i); says = λ j h z m i t. rw p (lag-says l z i t) }
 
   pub cites-by-lower : {c : LagCiting} → Fit k ws → e < length ws / 3 → r ≡ 2 → LagCites true (failed (effect-of x)) ws e W c → Cites k ws W r e y x (Lag c)
   unfolding quotes quoted
-  cites-by-lower f t p l = record { known = lag-known f t l; cites = λ j h z i. rw p (lag-quotes l j (h .lags-are) z i); says = λ j h z i t. rw p (lag-says l z i t) }
+  cites-by-lower f t p l = record { known = lag-known f t l; cites = λ j h z m i. rw p (lag-quotes l j (h .holds .lags-are) z i); says = λ j h z m i t. rw p (lag-says l z i t) }
 
   pub cites-by-side : (m b : Bool) (f : Family) {v : Sight} {c : LevelCiting} → reservoir m b f ≡ rule r → Views (k .events) (reservoir-of (k .reservoir)) m b e v → LevelCites f v W y (effect-of x) c → Cites k ws W r e y x (Level c)
   unfolding quotes quoted
   cites-by-side m b f p s l =
       record {
         known = tt;
-        cites = λ j h z i. l .cites z i ∙ rw (← p, h .events-are, h .reservoir-is, s .is, s .side-is);
-        says = λ j h z i t. l .says z i ∙ rw (← p, h .events-are, h .reservoir-is, s .is, s .side-is);
+        cites = λ j h z n i.
+            let o = h .holds in
+            let here = rw (o .events-are, o .reservoir-is) at (call-cites j m b e W (h .kinds) f y (effect-of x) z (rw (o .events-are) n) (side-end m i)) in
+            l .cites z i ∙ rw (← p, o .events-are, o .reservoir-is, s .is W, s .side-is) (sym here);
+        says = λ j h z n i t.
+            let o = h .holds in
+            let here = rw (o .events-are, o .reservoir-is) at (call-says j m b e W (h .kinds) f (effect-of x) z (rw (o .events-are) n) (side-end m i)) in
+            l .says z i t ∙ rw (← p, o .events-are, o .reservoir-is, s .is W, s .side-is) (ap (side-value m i) (sym here));
       }
 
 -- ---- ranges

@@ -10,7 +10,7 @@ use Rattle.model.specs.View.{side-end, side-value, View}
 use Rattle.model.specs.Levels.{place}
 use Rattle.model.specs.Rules.{Family, rule, targeted, Effect}
 use Rattle.model.specs.Facts.{any, late, early, family-cites, family-says, quotes, quoted}
-use Rattle.tables.specs.Job.{Holds}
+use Rattle.tables.specs.Job.{Serves}
 use Rattle.tables.specs.declared.Job.{Job}
 use Rattle.levels.specs.Values.{as-view, seen-by}
 use Rattle.levels.specs.declared.View.{View as Sight}
@@ -55,13 +55,13 @@ module _ (c : LevelCiting) (W : Windows) (z : ℕ) where
   abbrev pub height-cited : Bool
   height-cited =
       not (c .spares && eqb z (c .target))
-      && targeted (place (as-view (c .view)) (seen-by (c .view) W) (c .from .0) (c .to .0) z) (seen-by (c .view) W z h-max)
+      && targeted (place (as-view (c .view) W) (seen-by (c .view) W) (c .from .0) (c .to .0) z) (seen-by (c .view) W z h-max)
 
   abbrev pub level-cited : End → Bool
   level-cited t-min =
-      cond (eqb z (c .view .subject)) (c .starts) (late (as-view (c .view)) (seen-by (c .view) W) (c .from .0) (c .to .0) z)
+      cond (eqb z (c .view .subject)) (c .starts) (late (as-view (c .view) W) (seen-by (c .view) W) (c .from .0) (c .to .0) z)
   level-cited t-max =
-      cond (eqb z (c .view .subject)) (c .ends) (early (as-view (c .view)) (seen-by (c .view) W) (c .from .0) (c .to .0) z)
+      cond (eqb z (c .view .subject)) (c .ends) (early (as-view (c .view) W) (seen-by (c .view) W) (c .from .0) (c .to .0) z)
   level-cited h-min = c .view .mirror && height-cited
   level-cited h-max = not (c .view .mirror) && height-cited
 
@@ -97,14 +97,14 @@ pub record LagCites (starts ends : Bool) (ws : List ℤ) (g : ℕ) (W : Windows)
 
 -- c decides the facts of a slip of a family of reservoir rules in a view.
 pub record LevelCites (f : Family) (v : Sight) (W : Windows) (y : ℕ) (x : Effect) (c : LevelCiting) : Type 0 where
-  pub cites : (z : ℕ) (k : End) → level-cited c W z k ≡ family-cites f (as-view v) (seen-by v W) y x z (side-end (v .mirror) k)
-  pub says : (z : ℕ) (k : End) → level-said c W z k ≡ side-value (v .mirror) k (family-says f (as-view v) (seen-by v W) x z (side-end (v .mirror) k))
+  pub cites : (z : ℕ) (k : End) → level-cited c W z k ≡ family-cites f (as-view v W) (seen-by v W) y x z (side-end (v .mirror) k)
+  pub says : (z : ℕ) (k : End) → T (level-cited c W z k) → level-said c W z k ≡ side-value (v .mirror) k (family-says f (as-view v W) (seen-by v W) x z (side-end (v .mirror) k))
 
 -- c decides the facts of the slip of rule r with subject e, target y and effect x.
 pub record Cites (k : Job) (ws : List ℤ) (W : Windows) (r e y : ℕ) (x : Done) (c : Citing) : Type 0 where
   pub known : Known (k .events) c
-  pub cites : (j : Call) → Holds k ws j → (z : ℕ) (l : End) → cites-of c W z l ≡ quotes (rule r) j W e y (effect-of x) z l
-  pub says : (j : Call) → Holds k ws j → (z : ℕ) (l : End) → T (cites-of c W z l) → says-of c W z l ≡ quoted (rule r) j W e y (effect-of x) z l
+  pub cites : (j : Call) → Serves k ws W j → (z : ℕ) → z < k .events → (l : End) → cites-of c W z l ≡ quotes (rule r) j W e y (effect-of x) z l
+  pub says : (j : Call) → Serves k ws W j → (z : ℕ) → z < k .events → (l : End) → T (cites-of c W z l) → says-of c W z l ≡ quoted (rule r) j W e y (effect-of x) z l
 
 -- Which facts of event z a reservoir rule's slip quotes.
 pub record Quotes (c : LevelCiting) (W : Windows) (z : ℕ) (f : Quoted) : Type 0 where

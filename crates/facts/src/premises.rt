@@ -28,7 +28,7 @@ use tables::Word;
 use tables::t_max;
 use tables::t_min;
 ghost use mathlib.Core.Path.{_≡_};
-ghost use mathlib.Core.Bool.{_||_};
+ghost use mathlib.Core.Bool.{not, _&&_, _||_};
 ghost use Prim.Native.Nat.{_<_};
 ghost use lib.IntN.{ℤ};
 ghost use Rattle.integers.specs.Range.{Within};
@@ -62,7 +62,7 @@ pub fn surely_consumed(p: Place, h: Height) -> bool
 // Is y another event than e, and a pull that e's level surely counts, or a delivery that it leaves out? e's time window is u..v.
 pub fn other(b: &[i32; 256], view: View, u: Time, v: Time, y: usize) -> Others
     requires { ⌜ (y < 64) × Within (board (now b) y h-min) 9999 ⌝ }
-    ensures { λ r. ⌜ Other (as-view view) (seen-by view (board (now (b .entry)))) (u .0) (v .0) y r ⌝ }
+    ensures { λ r. ⌜ Other (as-view view (board (now (b .entry)))) (seen-by view (board (now (b .entry)))) (u .0) (v .0) y r ⌝ }
 {
     let p = place(b, view, u, v, y);
     let h = seen_h_max(b, view, y);
@@ -87,7 +87,7 @@ fn either(a: Others, b: Others) -> Others
 // Is one of the events such a pull, is one such a delivery?
 pub fn others(b: &[i32; 256], view: View, u: Time, v: Time) -> Others
     requires { ⌜ Ranged (view .events) (board (now b)) ⌝ }
-    ensures { λ r. ⌜ Any (view .events) (as-view view) (seen-by view (board (now (b .entry)))) (u .0) (v .0) r ⌝ }
+    ensures { λ r. ⌜ Any (view .events) (as-view view (board (now (b .entry)))) (seen-by view (board (now (b .entry)))) (u .0) (v .0) r ⌝ }
 {
     let mut found = Others {
         early: false,
@@ -105,7 +105,14 @@ pub fn others(b: &[i32; 256], view: View, u: Time, v: Time) -> Others
 
 // ---- e's time window and the times said of others
 
-// A delivery not counted comes no earlier than this.
+// Is "before" meant of a delivery that is not counted?
+fn late_before(view: View) -> bool
+    ensures { λ r. ⌜ r ≡ (view .strict || (not (view .mirror) && view .later)) ⌝ }
+{
+    view.strict | !view.mirror & view.later
+}
+
+// Such a delivery comes no earlier than this.
 fn first_late(strict: bool, v: Time) -> Time
     requires { ⌜ Within (v .0) 20001 ⌝ }
     ensures { λ r. ⌜ r .0 ≡ first-late strict (v .0) ⌝ }
@@ -182,7 +189,7 @@ fn level_citing(b: &[i32; 256], view: View, family: usize, y: usize, x: Effect) 
         view: view,
         from: from,
         to: to,
-        after: first_late(view.strict, to),
+        after: first_late(late_before(view), to),
         until: last_early(view.strict, from),
         starts: o.early,
         ends: top & o.late,

@@ -29,13 +29,16 @@ pub gain-tested : (s p : Bool) (h : ℤ) {made : Bool} {r : ℤ} → made ≡ pr
 gain-tested s p h e q = q ∙ rw e (gain-tests s p h)
 
 -- The same on a side, whose times are the job's.
-pub other-at : (m strict : Bool) (W : Windows) (u v : ℤ) (y : ℕ) {late early h r : ℤ} {x z : Bool} {p : Place} →
-    late ≡ W y t-max → x ≡ ahead strict late u → early ≡ W y t-min → z ≡ ahead strict early v → p ≡ placed false strict x z → h ≡ side m W y h-max → r ≡ gain p h →
-    r ≡ other-gains (λ y. strict) (side m W) u v y
-other-at m strict W u v y a b c d e f g = let i = side-early m W y in let j = side-late m W y in cc
+pub other-at : (m : Bool) (s : ℕ → Bool) (W : Windows) (u v : ℤ) (y : ℕ) {late early h r : ℤ} {t x z : Bool} {p : Place} →
+    t ≡ s y → late ≡ W y t-max → x ≡ ahead t late u → early ≡ W y t-min → z ≡ ahead t early v → p ≡ placed false t x z → h ≡ side m W y h-max → r ≡ gain p h →
+    r ≡ other-gains s (side m W) u v y
+other-at m s W u v y t a b c d e f g = let i = side-early m W y in let j = side-late m W y in cc
 
-pub own-all : {s : Bool} {r : ℤ} (h : ℤ) → s ≡ false → r ≡ h → r ≡ cond s (pos 0) h
-own-all h p q = rw p q
+pub own-none : {t : Bool} (s : Bool) (h : ℤ) → t ≡ s → t ≡ true → pos 0 ≡ cond s (pos 0) h
+own-none s h p q = rw (sym p ∙ q)
+
+pub own-all : {t : Bool} (s : Bool) {r : ℤ} (h : ℤ) → t ≡ s → t ≡ false → r ≡ h → r ≡ cond s (pos 0) h
+own-all s h p q r = rw (sym p ∙ q) r
 
 -- ---- ranges
 

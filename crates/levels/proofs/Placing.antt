@@ -52,9 +52,9 @@ placed-tests false s false true = refl
 placed-tests false s false false = refl
 
 -- The place of z in a view of side m.
-pub placed-at : (m : Bool) (E : View) (W : Windows) (u v : ℤ) (z : ℕ) {p : Place} {x y : Bool} {late early : ℤ} →
-    late ≡ W z t-max → x ≡ ahead (E .before z) late u → early ≡ W z t-min → y ≡ ahead (E .before z) early v → p ≡ placed (eqb z (E .subject)) (E .before z) x y → p ≡ place E (side m W) u v z
-placed-at m E W u v z a b c d f = let i = side-early m W z in let j = side-late m W z in cc
+pub placed-at : (m : Bool) (E : View) (W : Windows) (u v : ℤ) (z : ℕ) {p : Place} {t x y : Bool} {late early : ℤ} →
+    t ≡ E .before z → late ≡ W z t-max → x ≡ ahead t late u → early ≡ W z t-min → y ≡ ahead t early v → p ≡ placed (eqb z (E .subject)) t x y → p ≡ place E (side m W) u v z
+placed-at m E W u v z t a b c d f = let i = side-early m W z in let j = side-late m W z in cc
 
 pub stands-at : (E : View) (W : Windows) (y : ℕ) {p : Place} {u v : ℤ} → u ≡ e-min E W → v ≡ e-max E W → p ≡ place E W u v y → p ≡ stands E W y
 stands-at E W y a b c = rw (a, b) at c

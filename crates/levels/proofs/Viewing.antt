@@ -1,15 +1,18 @@
 -- Views as the code makes them: they are the definitions', and their numbers are in range.
 -- Assumes nothing.
-use mathlib.Core.Path.{_≡_, refl, ap}
-use mathlib.Core.Bool.{Bool, true, false}
+use mathlib.Core.Path.{_≡_, refl, sym, ap}
+use mathlib.Core.Bool.{Bool, true, false, not, _&&_, _||_}
 use Prim.Native.Nat.{ℕ, _<_}
-use lib.IntN.{ℤ}
-use Rattle.integers.specs.Range.{Within}
+use lib.IntN.{ℤ, pos}
+use Rattle.integers.specs.Range.{Within, eqZ}
 use Rattle.integers.proofs.Linear.{ints, neg-law}
-use Rattle.model.specs.Job.{h-min, h-max, Windows, Reservoir}
+use Rattle.model.specs.Job.{h-min, h-max, Windows, Reservoir, Job, events, sent}
 use Rattle.model.specs.Standing.{SaneCage, Ranged}
-use Rattle.model.specs.View.{side-value, side-limit, View, view-of}
-use Rattle.levels.specs.Values.{Views, Sighted}
+use Rattle.model.specs.View.{side-value, side-limit, View, view-of, view, seen}
+use Rattle.model.specs.Rules.{Family, family-rule}
+use Rattle.model.proofs.Agree.{at-hand, family-rule-agree}
+use Rattle.tables.specs.Job.{Kinds}
+use Rattle.levels.specs.Values.{strict-at, Views, Sighted}
 use Rattle.levels.specs.declared.View.{View as Sight}
 
 -- Both amounts are turned alike.
@@ -17,9 +20,9 @@ pub height-side : (m : Bool) (v : ℤ) → side-value m h-min v ≡ side-value m
 height-side true v = refl
 height-side false v = refl
 
-pub view-path : (n : ℕ) (c : Reservoir) (m b : Bool) (e : ℕ) {l q : ℤ} → l ≡ side-limit m c → q ≡ side-value m h-max (c .initial) →
-    _≡_ {A = View} (record { subject = e; events = n; limit = l; opening = q; before = λ y. b }) (view-of n c m b e)
-view-path n c m b e p q = rw (p, q)
+pub view-path : (n : ℕ) (c : Reservoir) (m b : Bool) (e : ℕ) {t : Bool} {l q : ℤ} → t ≡ eqZ (c .cover) (pos 0) → l ≡ side-limit m c → q ≡ side-value m h-max (c .initial) →
+    (W : Windows) → _≡_ {A = View} (record { subject = e; events = n; limit = l; opening = q; before = strict-at m b t W }) (view-of n c (λ y. W y h-max) m b e)
+view-path n c m b e t p q W = rw (t, p, q)
 
 pub limit-within : (m : Bool) (c : Reservoir) → SaneCage c → Within (side-limit m c) 1000000
 limit-within true c s = let h = s .max-range in omega (ints, neg-law (c .max-level))
@@ -29,20 +32,42 @@ pub opening-within : (m : Bool) (c : Reservoir) → SaneCage c → Within (side-
 opening-within true c s = let h = s .initial-range in omega (ints, neg-law (c .initial))
 opening-within false c s = s .initial-range
 
--- A view made for an event of a job whose windows are in range.
-pub sighted : {n : ℕ} {c : Reservoir} {m b : Bool} {e : ℕ} {v : Sight} {W : Windows} → Views n c m b e v → SaneCage c → Ranged n W → e < n → Sighted v W
-sighted {n} {c} {m} {b} {e} {v} s d r l =
-    let i : v .events ≡ n = ap (λ (E : View). E .events) (s .is) in
-    let j : v .subject ≡ e = ap (λ (E : View). E .subject) (s .is) in
-    let p : v .limit .0 ≡ side-limit m c = ap (λ (E : View). E .limit) (s .is) in
-    let q : v .opening .0 ≡ side-value m h-max (c .initial) = ap (λ (E : View). E .opening) (s .is) in
-    record {
-      ranged = rw i r;
-      subject = rw (i, j) l;
-      limit-range = rw p (limit-within m c d);
-      opening-range = rw q (opening-within m c d);
-    }
+module _ {n : ℕ} {c : Reservoir} {m b : Bool} {e : ℕ} {v : Sight} (s : Views n c m b e v) where
+  -- Its numbers, whatever the windows.
+  none : Windows
+  none y k = pos 0
 
--- Its events are the job's.
-pub seen-event : {n : ℕ} {c : Reservoir} {m b : Bool} {e : ℕ} {v : Sight} {y : ℕ} → Views n c m b e v → y < n → y < v .events
-seen-event {n} {c} {m} {b} {e} {v} s l = let i : v .events ≡ n = ap (λ (E : View). E .events) (s .is) in rw i l
+  pub events-are : v .events ≡ n
+  events-are = ap (λ (E : View). E .events) (s .is none)
+
+  pub subject-is : v .subject ≡ e
+  subject-is = ap (λ (E : View). E .subject) (s .is none)
+
+  limit-is : v .limit .0 ≡ side-limit m c
+  limit-is = ap (λ (E : View). E .limit) (s .is none)
+
+  opening-is : v .opening .0 ≡ side-value m h-max (c .initial)
+  opening-is = ap (λ (E : View). E .opening) (s .is none)
+
+  -- A view made for an event of a job whose windows are in range.
+  pub sighted : {W : Windows} → SaneCage c → Ranged n W → e < n → Sighted v W
+  sighted d r l =
+      record {
+        ranged = rw events-are r;
+        subject = rw (events-are, subject-is) l;
+        limit-range = rw limit-is (limit-within m c d);
+        opening-range = rw opening-is (opening-within m c d);
+      }
+
+  -- Its events are the job's.
+  pub seen-event : {y : ℕ} → y < n → y < v .events
+  seen-event l = rw events-are l
+
+-- On windows that show a call's deliveries, its view may tell them by the amounts at hand.
+module _ (j : Job) (m b : Bool) (e : ℕ) (W : Windows) (kinds : Kinds (events j) W (sent j)) where
+  pub before-here : (y : ℕ) → y < events j → view j m b e .before y ≡ at-hand j m b e W .before y
+  before-here y l = ap (λ p. b || (not m && (eqZ (j .reservoir .cover) (pos 0) && p))) (sym (kinds y l))
+
+  pub rule-here : e < events j → (f : Family) (y : ℕ) → y < events j → family-rule f (view j m b e) (seen j m e W) y ≡ family-rule f (at-hand j m b e W) (seen j m e W) y
+  rule-here =
+      family-rule-agree (view j m b e) (at-hand j m b e W .before) before-here (seen j m e W) (seen j m e W) (λ z l k. refl)

@@ -1,10 +1,10 @@
 -- Places and views as the code has them, what is seen in a view, and the numbers in play.
 use mathlib.Core.Path.{_≡_}
-use mathlib.Core.Bool.{Bool, true, false}
+use mathlib.Core.Bool.{Bool, true, false, not, _&&_, _||_}
 use Prim.Native.Nat.{ℕ, _<_}
 use lib.IntN.{ℤ}
 use Rattle.integers.specs.Range.{Within}
-use Rattle.model.specs.Job.{t-min, t-max, h-max, Windows, ahead, Reservoir}
+use Rattle.model.specs.Job.{t-min, t-max, h-max, Windows, ahead, produces, Reservoir}
 use Rattle.model.specs.Standing.{Ranged}
 use Rattle.model.specs.View as model
 use Rattle.model.specs.View.{side, view-of}
@@ -22,24 +22,29 @@ place-by false false = never
 abbrev pub place-of : Tested → Place
 place-of p = place-by (p .sure) (p .possible)
 
--- The code's view: how it counts, and the windows W as it sees them.
-abbrev pub as-view : View → model.View
-as-view v =
+-- Is "before" meant of y on windows W, by a rule of side m that is strict or not; later: with cover 0.
+abbrev pub strict-at : Bool → Bool → Bool → Windows → ℕ → Bool
+strict-at m strict later W y = strict || (not m && (later && produces (W y h-max)))
+
+-- The code's view on windows W: how it counts, and the windows as it sees them.
+abbrev pub as-view : View → Windows → model.View
+as-view v W =
     record {
       subject = v .subject;
       events = v .events;
       limit = v .limit .0;
       opening = v .opening .0;
-      before = λ y. v .strict;
+      before = strict-at (v .mirror) (v .strict) (v .later) W;
     }
 
 abbrev pub seen-by : View → Windows → Windows
 seen-by v W = side (v .mirror) W
 
--- It is the view at e of side m, before (b true) or by, of n events and a cage.
+-- It is the view at e of side m, before (b true) or by, of n events and a cage, with the amounts of the windows at hand.
 pub record Views (n : ℕ) (c : Reservoir) (m b : Bool) (e : ℕ) (v : View) : Type 0 where
-  pub is : as-view v ≡ view-of n c m b e
+  pub is : (W : Windows) → as-view v W ≡ view-of n c (λ y. W y h-max) m b e
   pub side-is : v .mirror ≡ m
+  pub strict-is : v .strict ≡ b
 
 -- Its numbers are in range, and those of the windows at hand.
 pub record Sighted (v : View) (W : Windows) : Type 0 where

@@ -5,6 +5,7 @@ use crate::places::ahead;
 use crate::places::placed;
 use crate::places::produces;
 use crate::places::side_h_max;
+use crate::places::strict_at;
 use crate::views::e_max;
 use crate::views::e_min;
 use tables::Height;
@@ -22,7 +23,7 @@ ghost use Rattle.model.specs.Standing.{Ranged};
 ghost use Rattle.model.specs.View.{side};
 ghost use Rattle.model.specs.Levels.{gain, most-in, most, sure-part};
 ghost use Rattle.tables.specs.Board.{board};
-ghost use Rattle.levels.specs.Values.{place-of, as-view, seen-by, other-gains, Sighted};
+ghost use Rattle.levels.specs.Values.{place-of, strict-at, as-view, seen-by, other-gains, Sighted};
 
 // The sum of two amounts.
 pub fn plus(a: Height, b: Height) -> Height
@@ -60,22 +61,37 @@ pub fn gain(p: Place, h: Height) -> Height
 }
 
 // What event y, as another than e, adds to the level of e, whose time window is u..v, on a side.
-pub fn other_gain(b: &[i32; 256], m: bool, strict: bool, u: Time, v: Time, y: usize) -> Height
+pub fn other_gain(
+    b: &[i32; 256],
+    m: bool,
+    strict: bool,
+    later: bool,
+    u: Time,
+    v: Time,
+    y: usize,
+) -> Height
     requires { ⌜ (y < 64) × Within (board (now b) y h-min) 9999 ⌝ }
-    ensures { λ r. ⌜ r .0 ≡ other-gains (λ y. strict) (side m (board (now (b .entry)))) (u .0) (v .0) y ⌝ }
+    ensures { λ r. ⌜
+        r .0
+        ≡ other-gains (strict-at m strict later (board (now (b .entry)))) (side m (board (now (b .entry)))) (u .0) (v .0) y
+        ⌝ }
 {
-    let surely = ahead(strict, t_max(b, y), u);
-    let possibly = ahead(strict, t_min(b, y), v);
+    let before = strict_at(b, m, strict, later, y);
+    let surely = ahead(before, t_max(b, y), u);
+    let possibly = ahead(before, t_min(b, y), v);
     let h = side_h_max(b, m, y);
-    gain(placed(false, strict, surely, possibly), h)
+    gain(placed(false, before, surely, possibly), h)
 }
 
 // What e adds to its own level.
-pub fn own_gain(b: &[i32; 256], m: bool, strict: bool, e: usize) -> Height
+pub fn own_gain(b: &[i32; 256], m: bool, strict: bool, later: bool, e: usize) -> Height
     requires { ⌜ (e < 64) × Within (board (now b) e h-min) 9999 ⌝ }
-    ensures { λ r. ⌜ r .0 ≡ cond strict (pos 0) (side m (board (now (b .entry))) e h-max) ⌝ }
+    ensures { λ r. ⌜
+        r .0
+        ≡ cond (strict-at m strict later (board (now (b .entry))) e) (pos 0) (side m (board (now (b .entry))) e h-max)
+        ⌝ }
 {
-    if strict {
+    if strict_at(b, m, strict, later, e) {
         Height(0)
     } else {
         side_h_max(b, m, e)
@@ -83,59 +99,73 @@ pub fn own_gain(b: &[i32; 256], m: bool, strict: bool, e: usize) -> Height
 }
 
 // The opening stock q and what all events add, e taken for another event: this loop has no test for e.
-fn sum_gains(b: &[i32; 256], n: usize, q: Height, m: bool, strict: bool, u: Time, v: Time) -> Height
+fn sum_gains(
+    b: &[i32; 256],
+    n: usize,
+    q: Height,
+    m: bool,
+    strict: bool,
+    later: bool,
+    u: Time,
+    v: Time,
+) -> Height
     requires { ⌜ Ranged n (board (now b)) × Within (q .0) 1000000 ⌝ }
-    ensures { λ r. ⌜ r .0 ≡ q .0 +ℤ sum n (other-gains (λ y. strict) (side m (board (now (b .entry)))) (u .0) (v .0)) ⌝ }
+    ensures { λ r. ⌜
+        r .0
+        ≡ q .0
+        +ℤ sum n (other-gains (strict-at m strict later (board (now (b .entry)))) (side m (board (now (b .entry)))) (u .0) (v .0))
+        ⌝ }
 {
     let mut total = q;
     let mut y: usize = 0;
     while y < n {
-        let h = other_gain(b, m, strict, u, v, y);
+        let h = other_gain(b, m, strict, later, u, v, y);
         total = plus(total, h);
         y += 1;
     }
     total
 }
 
-// The same in a view, with the side and before or by as literals at the loop, which is then one of four without tests of them.
+// The same in a view, with the side, before or by, and cover as literals at the loop, which is then one of five without tests of them.
 pub fn all_gains(b: &[i32; 256], view: View, u: Time, v: Time) -> Height
     requires { ⌜ Sighted view (board (now b)) ⌝ }
-    ensures { λ r. ⌜ r .0 ≡ view .opening .0 +ℤ sum (view .events) (other-gains (as-view view .before) (seen-by view (board (now (b .entry)))) (u .0) (v .0)) ⌝ }
+    ensures { λ r. ⌜ r .0 ≡ view .opening .0 +ℤ sum (view .events) (other-gains (as-view view (board (now (b .entry))) .before) (seen-by view (board (now (b .entry)))) (u .0) (v .0)) ⌝ }
 {
     let n = view.events;
     let q = view.opening;
     if view.mirror {
         if view.strict {
-            sum_gains(b, n, q, true, true, u, v)
-        } else {
-            sum_gains(b, n, q, true, false, u, v)
+            return sum_gains(b, n, q, true, true, false, u, v);
         }
-    } else {
-        if view.strict {
-            sum_gains(b, n, q, false, true, u, v)
-        } else {
-            sum_gains(b, n, q, false, false, u, v)
-        }
+        return sum_gains(b, n, q, true, false, false, u, v);
     }
+    if view.strict {
+        return sum_gains(b, n, q, false, true, false, u, v);
+    }
+    if view.later {
+        return sum_gains(b, n, q, false, false, true, u, v);
+    }
+    sum_gains(b, n, q, false, false, false, u, v)
 }
 
 // Most before (by) e with u..v for e's time window.
 pub fn most_in(b: &[i32; 256], view: View, u: Time, v: Time) -> Height
     requires { ⌜ Sighted view (board (now b)) ⌝ }
-    ensures { λ r. ⌜ r .0 ≡ most-in (as-view view) (seen-by view (board (now (b .entry)))) (u .0) (v .0) ⌝ }
+    ensures { λ r. ⌜ r .0 ≡ most-in (as-view view (board (now (b .entry)))) (seen-by view (board (now (b .entry)))) (u .0) (v .0) ⌝ }
 {
     let m = view.mirror;
     let strict = view.strict;
+    let later = view.later;
     let e = view.subject;
     let all = all_gains(b, view, u, v);
-    let others = minus(all, other_gain(b, m, strict, u, v, e));
-    plus(others, own_gain(b, m, strict, e))
+    let others = minus(all, other_gain(b, m, strict, later, u, v, e));
+    plus(others, own_gain(b, m, strict, later, e))
 }
 
 // Most before (by) e.
 pub fn most(b: &[i32; 256], view: View) -> Height
     requires { ⌜ Sighted view (board (now b)) ⌝ }
-    ensures { λ r. ⌜ r .0 ≡ most (as-view view) (seen-by view (board (now (b .entry)))) ⌝ }
+    ensures { λ r. ⌜ r .0 ≡ most (as-view view (board (now (b .entry)))) (seen-by view (board (now (b .entry)))) ⌝ }
 {
     most_in(b, view, e_min(b, view), e_max(b, view))
 }
@@ -143,7 +173,7 @@ pub fn most(b: &[i32; 256], view: View) -> Height
 // The surely-before (by) part with the opening stock: the level where e comes too early for any event to be possibly before (by) it.
 pub fn sure_part(b: &[i32; 256], view: View) -> Height
     requires { ⌜ Sighted view (board (now b)) ⌝ }
-    ensures { λ r. ⌜ r .0 ≡ sure-part (as-view view) (seen-by view (board (now (b .entry)))) ⌝ }
+    ensures { λ r. ⌜ r .0 ≡ sure-part (as-view view (board (now (b .entry)))) (seen-by view (board (now (b .entry)))) ⌝ }
 {
     most_in(b, view, e_min(b, view), Time(-20001))
 }

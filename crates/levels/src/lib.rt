@@ -11,12 +11,13 @@ pub struct Place {
     pub possible: bool,
 }
 
-// How a rule counts at an event, its subject: the number of events, the job or its mirror, before (strict) or by, and the limit and the opening stock of that side.
+// How a rule counts at an event, its subject: the number of events, the job or its mirror, before (strict) or by, whether deliveries count later (cover 0), and the limit and the opening stock of that side.
 pub struct View {
     pub subject: usize,
     pub events: usize,
     pub mirror: bool,
     pub strict: bool,
+    pub later: bool,
     pub limit: Height,
     pub opening: Height,
 }

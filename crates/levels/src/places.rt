@@ -13,7 +13,7 @@ ghost use Rattle.model.specs.Job.{h-min, h-max, ahead, produces, consumes};
 ghost use Rattle.model.specs.View.{side, side-value};
 ghost use Rattle.model.specs.Levels.{placed};
 ghost use Rattle.tables.specs.Board.{board};
-ghost use Rattle.levels.specs.Values.{place-of};
+ghost use Rattle.levels.specs.Values.{place-of, strict-at};
 
 pub fn earlier(a: Time, b: Time) -> bool
     ensures { λ r. ⌜ r ≡ ltZ (a .0) (b .0) ⌝ }
@@ -80,6 +80,15 @@ pub fn consumes(h: Height) -> bool
     ensures { λ r. ⌜ r ≡ consumes (h .0) ⌝ }
 {
     h.0 < 0
+}
+
+// Is "before" meant of y: wherever the rule is strict, and where deliveries count later, of a delivery on the job's own side.
+pub fn strict_at(b: &[i32; 256], m: bool, strict: bool, later: bool, y: usize) -> bool
+    requires { ⌜ y < 64 ⌝ }
+    ensures { λ r. ⌜ r ≡ strict-at m strict later (board (now (b .entry))) y ⌝ }
+{
+    let made = produces(h_max(b, y));
+    strict | !m & (later & made)
 }
 
 // Is it e itself; before or by; the test for surely; the test for possibly.

@@ -6,6 +6,7 @@ use crate::places::negated;
 use crate::places::placed;
 use crate::places::side_h_max;
 use crate::places::side_height;
+use crate::places::strict_at;
 use tables::Height;
 use tables::Reservoir;
 use tables::Time;
@@ -13,7 +14,8 @@ use tables::t_max;
 use tables::t_min;
 ghost use mathlib.Core.Path.{_≡_};
 ghost use Prim.Native.Nat.{_<_};
-ghost use Rattle.integers.specs.Range.{Within};
+ghost use lib.IntN.{pos};
+ghost use Rattle.integers.specs.Range.{Within, eqZ};
 ghost use Rattle.model.specs.Job.{h-min, h-max};
 ghost use Rattle.model.specs.Standing.{SaneCage};
 ghost use Rattle.model.specs.View.{side-value, side-limit};
@@ -38,6 +40,15 @@ pub fn side_opening(m: bool, c: Reservoir) -> Height
     side_height(m, c.initial)
 }
 
+// Cover 0: do deliveries count later?
+fn counts_later(c: Reservoir) -> bool
+    ensures { λ r. ⌜ r ≡ eqZ (reservoir-of c .cover) (pos 0) ⌝ }
+{
+    let w = c.cover;
+    let x = w.0;
+    x == 0
+}
+
 // The view at e of a side, before (strict) or by, in a job of n events and this cage.
 pub fn view(c: Reservoir, n: usize, m: bool, strict: bool, e: usize) -> View
     requires { ⌜ SaneCage (reservoir-of c) ⌝ }
@@ -48,6 +59,7 @@ pub fn view(c: Reservoir, n: usize, m: bool, strict: bool, e: usize) -> View
         events: n,
         mirror: m,
         strict: strict,
+        later: counts_later(c),
         limit: side_limit(m, c),
         opening: side_opening(m, c),
     }
@@ -56,14 +68,14 @@ pub fn view(c: Reservoir, n: usize, m: bool, strict: bool, e: usize) -> View
 // t_min(e) and t_max(e).
 pub fn e_min(b: &[i32; 256], view: View) -> Time
     requires { ⌜ view .subject < 64 ⌝ }
-    ensures { λ r. ⌜ r .0 ≡ e-min (as-view view) (seen-by view (board (now (b .entry)))) ⌝ }
+    ensures { λ r. ⌜ r .0 ≡ e-min (as-view view (board (now (b .entry)))) (seen-by view (board (now (b .entry)))) ⌝ }
 {
     t_min(b, view.subject)
 }
 
 pub fn e_max(b: &[i32; 256], view: View) -> Time
     requires { ⌜ view .subject < 64 ⌝ }
-    ensures { λ r. ⌜ r .0 ≡ e-max (as-view view) (seen-by view (board (now (b .entry)))) ⌝ }
+    ensures { λ r. ⌜ r .0 ≡ e-max (as-view view (board (now (b .entry)))) (seen-by view (board (now (b .entry)))) ⌝ }
 {
     t_max(b, view.subject)
 }
@@ -79,9 +91,9 @@ pub fn seen_h_max(b: &[i32; 256], view: View, y: usize) -> Height
 // Where y stands to e, whose time window is u..v.
 pub fn place(b: &[i32; 256], view: View, u: Time, v: Time, y: usize) -> Place
     requires { ⌜ y < 64 ⌝ }
-    ensures { λ r. ⌜ place-of r ≡ place (as-view view) (seen-by view (board (now (b .entry)))) (u .0) (v .0) y ⌝ }
+    ensures { λ r. ⌜ place-of r ≡ place (as-view view (board (now (b .entry)))) (seen-by view (board (now (b .entry)))) (u .0) (v .0) y ⌝ }
 {
-    let strict = view.strict;
+    let strict = strict_at(b, view.mirror, view.strict, view.later, y);
     let surely = ahead(strict, t_max(b, y), u);
     let possibly = ahead(strict, t_min(b, y), v);
     placed(y == view.subject, strict, surely, possibly)
@@ -90,7 +102,7 @@ pub fn place(b: &[i32; 256], view: View, u: Time, v: Time, y: usize) -> Place
 // Where y stands to e.
 pub fn stands(b: &[i32; 256], view: View, y: usize) -> Place
     requires { ⌜ (view .subject < 64) × (y < 64) ⌝ }
-    ensures { λ r. ⌜ place-of r ≡ stands (as-view view) (seen-by view (board (now (b .entry)))) y ⌝ }
+    ensures { λ r. ⌜ place-of r ≡ stands (as-view view (board (now (b .entry)))) (seen-by view (board (now (b .entry)))) y ⌝ }
 {
     place(b, view, e_min(b, view), e_max(b, view), y)
 }

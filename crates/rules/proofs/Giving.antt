@@ -13,11 +13,12 @@ use Rattle.model.specs.Job.{t-min, t-max, h-min, h-max, Windows, lag-word, Job 
 use Rattle.model.specs.Standing.{Ranged}
 use Rattle.model.specs.View.{side-value}
 use Rattle.model.specs.Levels.{stands, most}
-use Rattle.model.specs.Rules.{Finding, nothing, clash, bound, given-if, Family, level, time, height, Rule, reservoir, rule, finding, time-rule, targeted, side-finding}
-use Rattle.tables.specs.Job.{reservoir-of, Holds, Fit}
+use Rattle.model.specs.Rules.{Finding, nothing, clash, bound, given-if, Family, level, time, height, Rule, reservoir, rule, finding, time-rule, targeted, side-finding, family-end}
+use Rattle.tables.specs.Job.{reservoir-of, Serves, Fit}
 use Rattle.tables.specs.declared.Job.{Job}
 use Rattle.levels.specs.Values.{as-view, seen-by, Views}
 use Rattle.levels.specs.declared.View.{View as Sight}
+use Rattle.levels.proofs.Viewing.{rule-here}
 use Rattle.rules.specs.Values.{family-of, seen-rule, subjects-of, Lagged}
 
 -- ---- by number
@@ -71,20 +72,20 @@ pub found-none : {t : Bool} (v : ℤ) {f : Finding} → t ≡ false → given-if
 found-none v p q = rw p at q
 
 module _ (v : Sight) (W : Windows) where
-  pub level-yes : {t : Bool} → t ≡ ltZ (most (as-view v) (seen-by v W)) (v .limit .0) → t ≡ true → clash ≡ seen-rule level v W (v .subject)
+  pub level-yes : {t : Bool} → t ≡ ltZ (most (as-view v W) (seen-by v W)) (v .limit .0) → t ≡ true → clash ≡ seen-rule level v W (v .subject)
   level-yes p q = rw (sym p ∙ q)
 
-  pub level-no : {t : Bool} → t ≡ ltZ (most (as-view v) (seen-by v W)) (v .limit .0) → t ≡ false → nothing ≡ seen-rule level v W (v .subject)
+  pub level-no : {t : Bool} → t ≡ ltZ (most (as-view v W) (seen-by v W)) (v .limit .0) → t ≡ false → nothing ≡ seen-rule level v W (v .subject)
   level-no p q = rw (sym p ∙ q)
 
-  pub time-is : {f : Finding} → f ≡ time-rule (as-view v) (seen-by v W) → f ≡ seen-rule time v W (v .subject)
-  time-is p = p ∙ sym (side-time (v .mirror) (time-rule (as-view v) (seen-by v W)))
+  pub time-is : {f : Finding} → f ≡ time-rule (as-view v W) (seen-by v W) → f ≡ seen-rule time v W (v .subject)
+  time-is p = p ∙ sym (side-time (v .mirror) (time-rule (as-view v W) (seen-by v W)))
 
-  pub height-yes : (y : ℕ) {t : Bool} {x r : ℤ} → t ≡ targeted (stands (as-view v) (seen-by v W) y) (seen-by v W y h-max) → t ≡ true →
-      x ≡ v .limit .0 -ℤ (most (as-view v) (seen-by v W) -ℤ seen-by v W y h-max) → r ≡ side-value (v .mirror) h-min x → bound r ≡ seen-rule height v W y
+  pub height-yes : (y : ℕ) {t : Bool} {x r : ℤ} → t ≡ targeted (stands (as-view v W) (seen-by v W) y) (seen-by v W y h-max) → t ≡ true →
+      x ≡ v .limit .0 -ℤ (most (as-view v W) (seen-by v W) -ℤ seen-by v W y h-max) → r ≡ side-value (v .mirror) h-min x → bound r ≡ seen-rule height v W y
   height-yes y p q x r = rw (sym p ∙ q) (ap bound (rw x at r))
 
-  pub height-no : (y : ℕ) {t : Bool} → t ≡ targeted (stands (as-view v) (seen-by v W) y) (seen-by v W y h-max) → t ≡ false → nothing ≡ seen-rule height v W y
+  pub height-no : (y : ℕ) {t : Bool} → t ≡ targeted (stands (as-view v W) (seen-by v W) y) (seen-by v W y h-max) → t ≡ false → nothing ≡ seen-rule height v W y
   height-no y p q = rw (sym p ∙ q)
 
 -- ---- in a job
@@ -102,16 +103,20 @@ lagged {k} {ws} {W} f r g l =
     }
 
 module _ {k : Job} {ws : List ℤ} (W : Windows) (r e y : ℕ) where
-  pub gives-upper : {x : ℤ} → r ≡ 1 → x ≡ W (natAbs (lag-word ws e 1)) t-max +ℤ lag-word ws e 2 → (j : Call) → Holds k ws j → bound x ≡ finding (rule r) j W e y
+  pub gives-upper : {x : ℤ} → r ≡ 1 → x ≡ W (natAbs (lag-word ws e 1)) t-max +ℤ lag-word ws e 2 → (j : Call) → Serves k ws W j → bound x ≡ finding (rule r) j W e y
   unfolding finding
-  gives-upper p q j h = rw (p, q, h .lags-are)
+  gives-upper p q j h = rw (p, q, h .holds .lags-are)
 
-  pub gives-lower : {x : ℤ} → r ≡ 2 → x ≡ W (natAbs (lag-word ws e 0)) t-min -ℤ lag-word ws e 2 → (j : Call) → Holds k ws j → bound x ≡ finding (rule r) j W e y
+  pub gives-lower : {x : ℤ} → r ≡ 2 → x ≡ W (natAbs (lag-word ws e 0)) t-min -ℤ lag-word ws e 2 → (j : Call) → Serves k ws W j → bound x ≡ finding (rule r) j W e y
   unfolding finding
-  gives-lower p q j h = rw (p, q, h .lags-are)
+  gives-lower p q j h = rw (p, q, h .holds .lags-are)
 
   -- The rule's variant and its family are known.
-  pub gives-seen : (m b : Bool) (i : ℕ) {v : Sight} {f : Finding} {g : Family} → reservoir m b (family-of i) ≡ rule r → Views (k .events) (reservoir-of (k .reservoir)) m b e v → family-of i ≡ g → f ≡ seen-rule g v W y →
-      (j : Call) → Holds k ws j → f ≡ finding (rule r) j W e y
+  pub gives-seen : (m b : Bool) (i : ℕ) {v : Sight} {f : Finding} {g : Family} → reservoir m b (family-of i) ≡ rule r → Views (k .events) (reservoir-of (k .reservoir)) m b e v → family-of i ≡ g → e < k .events → y < k .events → f ≡ seen-rule g v W y →
+      (j : Call) → Serves k ws W j → f ≡ finding (rule r) j W e y
   unfolding finding
-  gives-seen m b i {v} p s q t j h = let z = rw q at p in t ∙ rw (← z, h .events-are, h .reservoir-is, s .is, s .side-is)
+  gives-seen m b i {v} {g = g} p s q l n t j h =
+      let z = rw q at p in
+      let o = h .holds in
+      let here = rw (o .events-are, o .reservoir-is) at (rule-here j m b e W (h .kinds) (rw (o .events-are) l) g y (rw (o .events-are) n)) in
+      t ∙ rw (← z, o .events-are, o .reservoir-is, s .is W, s .side-is) (ap (side-finding m (family-end g)) (sym here))

@@ -12,7 +12,7 @@ use Rattle.model.specs.Standing.{SaneLag, span, Ranged}
 use Rattle.model.specs.View.{View}
 use Rattle.model.specs.Levels.{e-min, most-in}
 use Rattle.model.specs.Rules.{Finding, nothing, clash, bound, given-if, Family, level, time, height, Rule, lag-upper, lag-lower, reservoir, family-rule, family-end, side-finding, rule, finding, own-end, Effect, idle, narrows, fails, effect}
-use Rattle.tables.specs.Job.{Holds, Fit}
+use Rattle.tables.specs.Job.{Serves, Fit}
 use Rattle.tables.specs.declared.Job.{Job}
 use Rattle.levels.specs.Values.{as-view, seen-by}
 use Rattle.levels.specs.declared.View.{View as Sight}
@@ -52,7 +52,7 @@ finding-of (Of h) = bound (h .0)
 
 -- What a family of rules gives in a view, read back from its side.
 abbrev pub seen-rule : Family → Sight → Windows → ℕ → Finding
-seen-rule f v W y = side-finding (v .mirror) (family-end f) (family-rule f (as-view v) (seen-by v W) y)
+seen-rule f v W y = side-finding (v .mirror) (family-end f) (family-rule f (as-view v W) (seen-by v W) y)
 
 -- ---- what that does
 
@@ -97,5 +97,5 @@ pub record Tries (k : Job) (ws : List ℤ) (W : Windows) (r e y : ℕ) : Type 0 
 
 -- x is what rule r for a subject e and a target y does to y's window; a new end is in its range.
 pub record Does (k : Job) (ws : List ℤ) (W : Windows) (r e y : ℕ) (x : Done) : Type 0 where
-  pub is : (j : Call) → Holds k ws j → effect-of x ≡ effect (own-end (rule r)) W y (finding (rule r) j W e y)
+  pub is : (j : Call) → Serves k ws W j → effect-of x ≡ effect (own-end (rule r)) W y (finding (rule r) j W e y)
   pub range : (v : ℤ) → effect-of x ≡ narrows v → Within v (span (own-end (rule r)))

@@ -12,6 +12,7 @@ use levels::places::below;
 use levels::places::consumes;
 use levels::places::minute_after;
 use levels::places::produces;
+use levels::places::strict_at;
 use levels::views::e_min;
 use levels::views::seen_h_max;
 use levels::views::stands;
@@ -36,7 +37,7 @@ ghost use Rattle.rules.specs.Values.{soonest-of, Short};
 // Rules 3 and 9: is most before (by) e below the limit?
 pub fn level_clashes(b: &[i32; 256], view: View) -> bool
     requires { ⌜ Sighted view (board (now b)) ⌝ }
-    ensures { λ r. ⌜ r ≡ ltZ (most (as-view view) (seen-by view (board (now (b .entry))))) (view .limit .0) ⌝ }
+    ensures { λ r. ⌜ r ≡ ltZ (most (as-view view (board (now (b .entry)))) (seen-by view (board (now (b .entry))))) (view .limit .0) ⌝ }
 {
     below(most(b, view), view.limit)
 }
@@ -54,9 +55,10 @@ pub fn counts_from(strict: bool, t: Time) -> Time
 // The time of e from which y counts.
 fn starts(b: &[i32; 256], view: View, y: usize) -> Time
     requires { ⌜ (y < 64) × Within (board (now b) y t-min) 20000 ⌝ }
-    ensures { λ r. ⌜ r .0 ≡ counts-from (view .strict) (seen-by view (board (now (b .entry))) y t-min) ⌝ }
+    ensures { λ r. ⌜ r .0 ≡ counts-from (as-view view (board (now (b .entry))) .before y) (seen-by view (board (now (b .entry))) y t-min) ⌝ }
 {
-    counts_from(view.strict, t_min(b, y))
+    let before = strict_at(b, view.mirror, view.strict, view.later, y);
+    counts_from(before, t_min(b, y))
 }
 
 // A delivery possibly, not surely, before (by).
@@ -72,7 +74,7 @@ fn may_count(b: &[i32; 256], view: View, y: usize) -> bool
     requires { ⌜ (view .subject < 64) × (y < 64) × Within (board (now b) y h-min) 9999 ⌝ }
     ensures { λ r. ⌜
         r
-        ≡ possible-producer (stands (as-view view) (seen-by view (board (now (b .entry)))) y) (seen-by view (board (now (b .entry))) y h-max)
+        ≡ possible-producer (stands (as-view view (board (now (b .entry)))) (seen-by view (board (now (b .entry)))) y) (seen-by view (board (now (b .entry))) y h-max)
         ⌝ }
 {
     possible_producer(stands(b, view, y), seen_h_max(b, view, y))
@@ -81,7 +83,7 @@ fn may_count(b: &[i32; 256], view: View, y: usize) -> bool
 // Is the limit reached at y, with e no later than y counts from?
 pub fn reached_at(b: &[i32; 256], view: View, y: usize) -> bool
     requires { ⌜ Sighted view (board (now b)) × (y < view .events) ⌝ }
-    ensures { λ r. ⌜ r ≡ reached-at (as-view view) (seen-by view (board (now (b .entry)))) y ⌝ }
+    ensures { λ r. ⌜ r ≡ reached-at (as-view view (board (now (b .entry)))) (seen-by view (board (now (b .entry)))) y ⌝ }
 {
     if may_count(b, view, y) {
         let level = most_in(b, view, e_min(b, view), starts(b, view, y));
@@ -118,14 +120,14 @@ pub fn search_event(b: &[i32; 256], view: View, y: usize, s: Search) -> Search
     requires { ⌜
         Sighted view (board (now b))
         × (y < view .events)
-        × Short (as-view view) (seen-by view (board (now b))) (s .short)
+        × Short (as-view view (board (now b))) (seen-by view (board (now b))) (s .short)
         ⌝ }
     ensures { λ r. ⌜
         (soonest-of (r .best)
         ≡ earlier (soonest-of (s .best))
-        (given-if (reached-at (as-view view) (seen-by view (board (now (b .entry)))) y)
-        (bound (counts-from (view .strict) (seen-by view (board (now (b .entry))) y t-min)))))
-        × Short (as-view view) (seen-by view (board (now (b .entry)))) (r .short)
+        (given-if (reached-at (as-view view (board (now (b .entry)))) (seen-by view (board (now (b .entry)))) y)
+        (bound (counts-from (as-view view (board (now (b .entry))) .before y) (seen-by view (board (now (b .entry))) y t-min)))))
+        × Short (as-view view (board (now (b .entry)))) (seen-by view (board (now (b .entry)))) (r .short)
         ⌝ }
 {
     let best = s.best;
@@ -157,7 +159,7 @@ pub fn search_event(b: &[i32; 256], view: View, y: usize, s: Search) -> Search
 // The earliest time of e at which the limit is reached.
 pub fn earliest(b: &[i32; 256], view: View) -> Soonest
     requires { ⌜ Sighted view (board (now b)) ⌝ }
-    ensures { λ r. ⌜ soonest-of r ≡ earliest (as-view view) (seen-by view (board (now (b .entry)))) (view .events) ⌝ }
+    ensures { λ r. ⌜ soonest-of r ≡ earliest (as-view view (board (now (b .entry)))) (seen-by view (board (now (b .entry)))) (view .events) ⌝ }
 {
     let none = Soonest {
         found: false,
@@ -180,7 +182,7 @@ pub fn earliest(b: &[i32; 256], view: View) -> Soonest
 // Rules 4 and 10: where the sure part is below the limit, the earliest time at which it is reached.
 pub fn time_rule(b: &[i32; 256], view: View) -> Soonest
     requires { ⌜ Sighted view (board (now b)) ⌝ }
-    ensures { λ r. ⌜ soonest-of r ≡ time-rule (as-view view) (seen-by view (board (now (b .entry)))) ⌝ }
+    ensures { λ r. ⌜ soonest-of r ≡ time-rule (as-view view (board (now (b .entry)))) (seen-by view (board (now (b .entry)))) ⌝ }
 {
     if below(sure_part(b, view), view.limit) {
         return earliest(b, view);
@@ -206,7 +208,7 @@ pub fn targeted(p: Place, h: Height) -> bool
 pub fn is_target(b: &[i32; 256], view: View, y: usize) -> bool
     requires { ⌜ (view .subject < 64) × (y < 64) × Within (board (now b) y h-min) 9999 ⌝ }
     ensures { λ r. ⌜
-        r ≡ targeted (stands (as-view view) (seen-by view (board (now (b .entry)))) y) (seen-by view (board (now (b .entry))) y h-max)
+        r ≡ targeted (stands (as-view view (board (now (b .entry)))) (seen-by view (board (now (b .entry)))) y) (seen-by view (board (now (b .entry))) y h-max)
         ⌝ }
 {
     targeted(stands(b, view, y), seen_h_max(b, view, y))
@@ -218,7 +220,7 @@ pub fn height_bound(b: &[i32; 256], view: View, y: usize) -> Height
     ensures { λ r. ⌜
         r .0
         ≡ view .limit .0
-        -ℤ (most (as-view view) (seen-by view (board (now (b .entry)))) -ℤ seen-by view (board (now (b .entry))) y h-max)
+        -ℤ (most (as-view view (board (now (b .entry)))) (seen-by view (board (now (b .entry)))) -ℤ seen-by view (board (now (b .entry))) y h-max)
         ⌝ }
 {
     let others = minus(most(b, view), seen_h_max(b, view, y));

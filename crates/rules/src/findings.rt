@@ -16,7 +16,7 @@ ghost use Prim.Native.Nat.{_<_};
 ghost use Rattle.model.specs.Job.{Job as Call};
 ghost use Rattle.model.specs.Rules.{rule, level, time, height, finding};
 ghost use Rattle.tables.specs.Board.{board};
-ghost use Rattle.tables.specs.Job.{Holds};
+ghost use Rattle.tables.specs.Job.{Serves};
 ghost use Rattle.levels.specs.Values.{Sighted};
 ghost use Rattle.rules.specs.Values.{finding-of, seen-rule, Tries};
 
@@ -64,7 +64,7 @@ pub fn finding(b: &[i32; 256], lags: &[i32], k: Job, r: usize, e: usize, y: usiz
     requires { ⌜ Tries k (now lags) (board (now b)) r e y ⌝ }
     ensures { λ f. ⌜ (
         (j : Call) →
-        Holds k (now (lags .entry)) j →
+        Serves k (now (lags .entry)) (board (now (b .entry))) j →
         finding-of f ≡ finding (rule r) j (board (now (b .entry))) e y
         ) ⌝ }
 {

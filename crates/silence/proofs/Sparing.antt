@@ -12,12 +12,15 @@ use lib.IntN.{ℤ, pos, negℤ, _-ℤ_}
 use lib.Signed.{leZ, _≤ℤ_, leZ-yes}
 use Rattle.integers.proofs.Linear.{ints, neg-law}
 use Rattle.integers.proofs.Tests.{true-is, and-out}
-use Rattle.model.specs.Job.{t-min, t-max, h-min, h-max, Windows, ahead, produces, Job}
-use Rattle.model.specs.View.{side, View, view, seen}
+use Rattle.model.specs.Job.{t-min, t-max, h-min, h-max, Windows, ahead, produces, Job, events, sent}
+use Rattle.model.specs.View.{side, View, seen}
 use Rattle.model.specs.Levels.{placed, e-min, e-max, stands}
-use Rattle.model.specs.Rules.{targeted, height, reservoir, effect, idle, height-rule}
+use Rattle.model.specs.Rules.{targeted, Family, height, reservoir, family-rule, family-end, effect, idle, height-rule}
+use Rattle.model.proofs.Agree.{at-hand}
 use Rattle.model.proofs.Silence.{Idle, seen-idle, untargeted-idle, spared-idle}
+use Rattle.tables.specs.Job.{Kinds}
 use Rattle.levels.proofs.Placing.{side-early, side-late}
+use Rattle.levels.proofs.Viewing.{rule-here}
 use Rattle.silence.specs.Slack.{slack-of, spares, moves, may-move, count, may-be-moved, some-move}
 
 -- ---- counting
@@ -66,14 +69,14 @@ pub spared-no : (t x : Bool) {s r : Bool} → s ≡ t → s ≡ false → r ≡ 
 spared-no t x p q r = rw (sym p ∙ q) r
 
 -- y's times are the same on both sides.
-pub may-at : (m s : Bool) (W : Windows) (u v k : ℤ) (y : ℕ) {late early h : ℤ} {a b p t : Bool} → late ≡ W y t-max → a ≡ ahead s late u → early ≡ W y t-min → b ≡ ahead s early v →
+pub may-at : (m : Bool) (s : ℕ → Bool) (W : Windows) (u v k : ℤ) (y : ℕ) {late early h : ℤ} {x a b p t : Bool} → x ≡ s y → late ≡ W y t-max → a ≡ ahead x late u → early ≡ W y t-min → b ≡ ahead x early v →
     h ≡ side m W y h-max → p ≡ produces h → t ≡ spares k (W y h-min) (W y h-max) → (not t && (a || (b && p))) ≡ may-move s (side m W) W u v k y
-may-at m s W u v k y i a j b h p t = rw (t, a, b, p, h, i, j, side-early m W y, side-late m W y)
+may-at m s W u v k y x i a j b h p t = rw (t, a, b, p, h, i, j, x, side-early m W y, side-late m W y)
 
-pub some-at : (E : View) (X W : Windows) (k : ℤ) {u v : ℤ} {all own : ℕ} {t x : Bool} → u ≡ e-min E X → v ≡ e-max E X → all ≡ count (E .events) (λ y. may-move (E .before y) X W u v k y) →
-    t ≡ may-move (E .before (E .subject)) X W u v k (E .subject) → own ≡ cond t 1 0 → x ≡ spares k (W (E .subject) h-min) (W (E .subject) h-max) →
-    (ltb own all || (not (E .before (E .subject)) && not x)) ≡ some-move E X W k
-some-at E X W k a b c d f g = rw (f, d, c, g, a, b)
+pub some-at : (E : View) (X W : Windows) (k : ℤ) {u v : ℤ} {all own : ℕ} {t z x : Bool} → u ≡ e-min E X → v ≡ e-max E X → all ≡ count (E .events) (may-move (E .before) X W u v k) →
+    t ≡ may-move (E .before) X W u v k (E .subject) → own ≡ cond t 1 0 → z ≡ E .before (E .subject) → x ≡ spares k (W (E .subject) h-min) (W (E .subject) h-max) →
+    (ltb own all || (not z && not x)) ≡ some-move E X W k
+some-at E X W k a b c d f s g = rw (f, d, c, s, g, a, b)
 
 -- ---- no target moves
 
@@ -139,15 +142,24 @@ width-side false W y l = l
 over-limit : {a b k : ℤ} → k ≡ a -ℤ b → pos 0 ≤ℤ k → b ≤ℤ a
 over-limit e l = omega ints
 
-module _ (m b : Bool) (j : Job) (W : Windows) (e y : ℕ) where
+-- What a family does to the windows seen, told by the amounts at hand, tells what the rule does.
+pub idle-here : (m b : Bool) (f : Family) (j : Job) (W : Windows) (e y : ℕ) → Kinds (events j) W (sent j) → e < events j → y < events j
+    → effect (family-end f) (seen j m e W) y (family-rule f (at-hand j m b e W) (seen j m e W) y) ≡ idle → Idle (reservoir m b f) j W e y
+idle-here m b f j W e y kinds l n h =
+    seen-idle m b f j W e y (ap (effect (family-end f) (seen j m e W) y) (rule-here j m b e W kinds l f y n) ∙ h)
+
+module _ (m b : Bool) (j : Job) (W : Windows) (e y : ℕ) (kinds : Kinds (events j) W (sent j)) (l : e < events j) (n : y < events j) where
+  abbrev E : View
+  E = at-hand j m b e W
+
   -- At a target that the level's slack does not move the rule does nothing.
-  pub still-idle : {k : ℤ} → k ≡ slack-of (view j m b e) (seen j m e W) → moves (view j m b e) (seen j m e W) W k y ≡ false → Idle (reservoir m b height) j W e y
-  still-idle {k} i h = seen-idle m b height j W e y (go (spares k (W y h-min) (W y h-max)) refl h)
+  pub still-idle : {k : ℤ} → k ≡ slack-of E (seen j m e W) → moves E (seen j m e W) W k y ≡ false → Idle (reservoir m b height) j W e y
+  still-idle {k} i h = idle-here m b height j W e y kinds l n (go (spares k (W y h-min) (W y h-max)) refl h)
     where
-      go : (t : Bool) → spares k (W y h-min) (W y h-max) ≡ t → (not t && targeted (stands (view j m b e) (seen j m e W) y) (seen j m e W y h-max)) ≡ false
-          → effect h-min (seen j m e W) y (height-rule (view j m b e) (seen j m e W) y) ≡ idle
+      go : (t : Bool) → spares k (W y h-min) (W y h-max) ≡ t → (not t && targeted (stands E (seen j m e W) y) (seen j m e W y h-max)) ≡ false
+          → effect h-min (seen j m e W) y (height-rule E (seen j m e W) y) ≡ idle
       go true q f =
           let both = and-out (leZ (pos 0) k) (leZ (W y h-max -ℤ W y h-min) k) (true-is q) in
           let w = width-side m W y (leZ-yes (both .1)) in
-          spared-idle (view j m b e) (seen j m e W) y (over-limit i (leZ-yes (both .0))) (rw i at w)
-      go false q f = untargeted-idle (view j m b e) (seen j m e W) y f
+          spared-idle E (seen j m e W) y (over-limit i (leZ-yes (both .0))) (rw i at w)
+      go false q f = untargeted-idle E (seen j m e W) y f

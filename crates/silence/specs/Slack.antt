@@ -22,10 +22,11 @@ spares k low high = leZ (pos 0) k && leZ (high -ℤ low) k
 abbrev pub moves : View → Windows → Windows → ℤ → ℕ → Bool
 moves E X W k y = not (spares k (W y h-min) (W y h-max)) && targeted (stands E X y) (X y h-max)
 
--- The same of y as another event than e, whose time window is u..v, before (s true) or by; neutral events are let pass.
-abbrev pub may-move : Bool → Windows → Windows → ℤ → ℤ → ℤ → ℕ → Bool
+-- The same of y as another event than e, whose time window is u..v; s says before or by; neutral events are let pass.
+abbrev pub may-move : (ℕ → Bool) → Windows → Windows → ℤ → ℤ → ℤ → ℕ → Bool
 may-move s X W u v k y =
-    not (spares k (W y h-min) (W y h-max)) && (ahead s (X y t-max) u || (ahead s (X y t-min) v && produces (X y h-max)))
+    not (spares k (W y h-min) (W y h-max))
+    && (ahead (s y) (X y t-max) u || (ahead (s y) (X y t-min) v && produces (X y h-max)))
 
 -- How many of the first n pass a test.
 unfoldable pub count : ℕ → (ℕ → Bool) → ℕ
@@ -34,7 +35,7 @@ count (suc n) p = count n p + cond (p n) 1 0
 
 -- Some other event than e may be moved, or e itself.
 abbrev pub may-be-moved : View → Windows → Windows → ℤ → ℕ → Bool
-may-be-moved E X W k y = may-move (E .before y) X W (e-min E X) (e-max E X) k y
+may-be-moved E X W k y = may-move (E .before) X W (e-min E X) (e-max E X) k y
 
 abbrev pub some-move : View → Windows → Windows → ℤ → Bool
 some-move E X W k =

@@ -42,7 +42,7 @@ ghost use Rattle.silence.specs.Calm.{reaches-early, floor-gain, larger, 
 // Does e's level reach the limit already with e at its earliest minute?
 pub fn reaches_early(b: &[i32; 256], view: View) -> bool
     requires { ⌜ Sighted view (board (now b)) ⌝ }
-    ensures { λ r. ⌜ r ≡ reaches-early (as-view view) (seen-by view (board (now (b .entry)))) ⌝ }
+    ensures { λ r. ⌜ r ≡ reaches-early (as-view view (board (now (b .entry)))) (seen-by view (board (now (b .entry)))) ⌝ }
 {
     let u = e_min(b, view);
     let ordered = no_later(u, e_max(b, view));

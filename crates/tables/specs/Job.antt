@@ -1,4 +1,4 @@
--- The code's job as the definitions': the reservoir, the job with its lent lag words, and their ranges.
+-- The code's job as the definitions': the reservoir, the job with its lent lag words, the windows at hand, and the ranges.
 use mathlib.Core.Path.{_≡_}
 use mathlib.Core.List.{List}
 use Prim.Native.Nat.{ℕ, _/_, _≤_, _<_}
@@ -6,7 +6,7 @@ use lib.IntN.{ℤ, pos}
 use lib.ListN.{length}
 use lib.Signed.{_≤ℤ_}
 use Rattle.model.specs.Job as model
-use Rattle.model.specs.Job.{events}
+use Rattle.model.specs.Job.{h-max, Windows, produces, events, sent}
 use Rattle.model.specs.Standing.{SaneCage, SaneLag}
 use Rattle.tables.specs.declared.Reservoir.{Reservoir}
 use Rattle.tables.specs.declared.Job.{Job}
@@ -22,6 +22,15 @@ pub record Holds (k : Job) (ws : List ℤ) (j : model.Job) : Type 0 where
   pub reservoir-is : j .reservoir ≡ reservoir-of (k .reservoir)
   pub events-are : events j ≡ k .events
   pub lags-are : j .lag-table ≡ ws
+
+-- Of the first n events the same are deliveries on windows W and on X.
+abbrev pub Kinds : ℕ → Windows → Windows → Type 0
+Kinds n W X = (y : ℕ) → y < n → produces (W y h-max) ≡ produces (X y h-max)
+
+-- The code's job is a call's, and windows W show which events are deliveries in it: what the rules read with cover 0.
+pub record Serves (k : Job) (ws : List ℤ) (W : Windows) (j : model.Job) : Type 0 where
+  pub holds : Holds k ws j
+  pub kinds : Kinds (events j) W (sent j)
 
 -- Its numbers are in the ranges that the job's own questions let pass.
 pub record Fit (k : Job) (ws : List ℤ) : Type 0 where

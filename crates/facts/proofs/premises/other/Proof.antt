@@ -23,7 +23,7 @@ returns c =
     let a = c .before .before .before .before .before .args in
     let p = c .before .before .before .before .place .ensures in
     let h = c .before .before .before .seen-h-max .ensures in
-    let E = as-view (a .view) in
+    let E = as-view (a .view) (board (a .b .now)) in
     let W = seen-by (a .view) (board (a .b .now)) in
     record {
       early = early-at E W (a .u .0) (a .v .0) (a .y) p h (c .before .before .surely-consumed .ensures);

@@ -12,7 +12,7 @@ use Rattle.facts.proofs.premises.others.Statement.{statement}
 use Rattle.facts.proofs.premises.others.Tie as tie
 
 abbrev Inv-loop : tie.InvT-loop
-Inv-loop b view u v found₀ n y₀ found y = (y ≤ n) × Any y (as-view view) (seen-by view (board b)) (u .0) (v .0) found
+Inv-loop b view u v found₀ n y₀ found y = (y ≤ n) × Any y (as-view view (board b)) (seen-by view (board b)) (u .0) (v .0) found
 
 abbrev μ-loop : tie.MeasureT-loop
 μ-loop b view u v found₀ n y₀ found y = n - y
@@ -20,7 +20,7 @@ abbrev μ-loop : tie.MeasureT-loop
 loop-holds : tie.Need-loop-holds Inv-loop μ-loop
 loop-holds c =
     let a = c .args in
-    let E = as-view (a .view) in
+    let E = as-view (a .view) (board (a .b .now)) in
     let W = seen-by (a .view) (board (a .b .now)) in
     (omega arith, record { early = any-none (early E W (a .u .0) (a .v .0)); late = any-none (late E W (a .u .0) (a .v .0)) })
 
@@ -40,7 +40,7 @@ loop-again : tie.Need-loop-again Inv-loop μ-loop
 loop-again c =
     let a = c .before .before .before .before .args in
     let l = c .before .before .before .loop in
-    let E = as-view (a .view) in
+    let E = as-view (a .view) (board (a .b .now)) in
     let W = seen-by (a .view) (board (a .b .now)) in
     let o = c .before .other .ensures in (
       omega arith,

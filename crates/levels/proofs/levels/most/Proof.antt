@@ -18,7 +18,7 @@ most-in-requires c κs = search needs
 returns : tie.Need-returns
 returns c =
     let a = c .before .before .before .args in
-    most-at (as-view (a .view)) (seen-by (a .view) (board (a .b .now))) (c .before .before .e-min .ensures) (c .before .e-max .ensures) (c .most-in .ensures)
+    most-at (as-view (a .view) (board (a .b .now))) (seen-by (a .view) (board (a .b .now))) (c .before .before .e-min .ensures) (c .before .e-max .ensures) (c .most-in .ensures)
 
 pub most-spec : {M : Type 1} → statement M
 most-spec = tie.close (tie.spec e-min-requires e-max-requires most-in-requires returns)

@@ -20,8 +20,8 @@ minus-requires c κs =
     let a = s .args in
     let p = s .pre in
     let r = side-ranged (a .view .mirror) (p .ranged) in (
-      wider (c .before .all-gains .ensures) (all-within (as-view (a .view) .before) (a .view .events) (a .u .0) (a .v .0) r (p .opening-range) (omega arith)) (omega arith),
-      wider (c .other-gain .ensures) (other-within (as-view (a .view) .before) (a .u .0) (a .v .0) (a .view .subject) r (p .subject)) (omega arith),
+      wider (c .before .all-gains .ensures) (all-within (as-view (a .view) (board (a .b .now)) .before) (a .view .events) (a .u .0) (a .v .0) r (p .opening-range) (omega arith)) (omega arith),
+      wider (c .other-gain .ensures) (other-within (as-view (a .view) (board (a .b .now)) .before) (a .u .0) (a .v .0) (a .view .subject) r (p .subject)) (omega arith),
     )
 
 own-gain-requires : tie.Need-own-gain-requires
@@ -33,17 +33,17 @@ plus-requires c κs =
     let a = s .args in
     let p = s .pre in
     let r = side-ranged (a .view .mirror) (p .ranged) in
-    let all = wider {l = 1640000} (c .before .before .before .all-gains .ensures) (all-within (as-view (a .view) .before) (a .view .events) (a .u .0) (a .v .0) r (p .opening-range) (omega arith)) (omega arith) in
-    let other = wider {l = 9999} (c .before .before .other-gain .ensures) (other-within (as-view (a .view) .before) (a .u .0) (a .v .0) (a .view .subject) r (p .subject)) (omega arith) in (
+    let all = wider {l = 1640000} (c .before .before .before .all-gains .ensures) (all-within (as-view (a .view) (board (a .b .now)) .before) (a .view .events) (a .u .0) (a .v .0) r (p .opening-range) (omega arith)) (omega arith) in
+    let other = wider {l = 9999} (c .before .before .other-gain .ensures) (other-within (as-view (a .view) (board (a .b .now)) .before) (a .u .0) (a .v .0) (a .view .subject) r (p .subject)) (omega arith) in (
       apart (c .before .minus .ensures) all other (omega arith),
-      wider (c .own-gain .ensures) (own-within (a .view .strict) (a .view .subject) r (p .subject)) (omega arith),
+      wider (c .own-gain .ensures) (own-within (as-view (a .view) (board (a .b .now)) .before (a .view .subject)) (a .view .subject) r (p .subject)) (omega arith),
     )
 
 returns : tie.Need-returns
 returns c =
     let s = c .before .before .before .before .before in
     let a = s .args in
-    most-own (as-view (a .view)) (seen-by (a .view) (board (a .b .now))) (a .u .0) (a .v .0) (s .pre .subject)
+    most-own (as-view (a .view) (board (a .b .now))) (seen-by (a .view) (board (a .b .now))) (a .u .0) (a .v .0) (s .pre .subject)
     (c .before .before .before .before .all-gains .ensures) (c .before .before .before .other-gain .ensures) (c .before .before .minus .ensures)
     (c .before .own-gain .ensures) (c .plus .ensures)
 

@@ -1,9 +1,13 @@
 -- `levels::levels::other_gain` gives what an event adds to the level of another, on a side. Assumes nothing.
 use Rattle.tables.specs.Board.{board}
+use Rattle.levels.specs.Values.{strict-at}
 use Rattle.levels.proofs.Adding.{other-at}
 use borrow.Author.Needs.{needs}
 use Rattle.levels.proofs.levels.other_gain.Statement.{statement}
 use Rattle.levels.proofs.levels.other_gain.Tie as tie
+
+strict-at-requires : tie.Need-strict-at-requires
+strict-at-requires c κs = search needs
 
 t-max-requires : tie.Need-t-max-requires
 t-max-requires c κs = search needs
@@ -29,8 +33,8 @@ gain-requires c κs = search needs
 returns : tie.Need-returns
 returns c =
     let k = c .before .before .before .before .before .before in
-    let a = k .before .args in
-    other-at (a .m) (a .strict) (board (a .b .now)) (a .u .0) (a .v .0) (a .y) (k .t-max .ensures)
+    let a = k .before .before .args in
+    other-at (a .m) (strict-at (a .m) (a .strict) (a .later) (board (a .b .now))) (board (a .b .now)) (a .u .0) (a .v .0) (a .y) (k .before .strict-at .ensures) (k .t-max .ensures)
     (c .before .before .before .before .before .ahead .ensures) (c .before .before .before .before .t-min .ensures)
     (c .before .before .before .ahead2 .ensures) (c .before .placed .ensures) (c .before .before .side-h-max .ensures) (c .gain .ensures)
 
@@ -38,6 +42,7 @@ pub other-gain-spec : {M : Type 1} → statement M
 other-gain-spec =
     tie.close
     (tie.spec
+    strict-at-requires
     t-max-requires
     ahead-requires
     t-min-requires

@@ -7,19 +7,19 @@ use Rattle.integers.specs.Sum.{sum}
 use Rattle.tables.specs.Board.{board}
 use Rattle.model.specs.Job.{h-min}
 use Rattle.model.specs.View.{side}
-use Rattle.levels.specs.Values.{other-gains}
+use Rattle.levels.specs.Values.{strict-at, other-gains}
 use Rattle.levels.proofs.Adding.{wider, side-ranged, all-within, other-within, sum-none, sum-more}
 use Rattle.levels.proofs.levels.sum_gains.Statement.{statement}
 use Rattle.levels.proofs.levels.sum_gains.Tie as tie
 
 abbrev Inv-loop : tie.InvT-loop
-Inv-loop b n m strict u v total₀ y₀ total y = (y ≤ n) × (total .0 ≡ total₀ .0 +ℤ sum y (other-gains (λ y. strict) (side m (board b)) (u .0) (v .0)))
+Inv-loop b n m strict later u v total₀ y₀ total y = (y ≤ n) × (total .0 ≡ total₀ .0 +ℤ sum y (other-gains (strict-at m strict later (board b)) (side m (board b)) (u .0) (v .0)))
 
 abbrev μ-loop : tie.MeasureT-loop
-μ-loop b n m strict u v total₀ y₀ total y = n - y
+μ-loop b n m strict later u v total₀ y₀ total y = n - y
 
 loop-holds : tie.Need-loop-holds Inv-loop μ-loop
-loop-holds c = let a = c .args in (omega arith, sum-none (a .q .0) (other-gains (λ y. a .strict) (side (a .m) (board (a .b .now))) (a .u .0) (a .v .0)))
+loop-holds c = let a = c .args in (omega arith, sum-none (a .q .0) (other-gains (strict-at (a .m) (a .strict) (a .later) (board (a .b .now))) (side (a .m) (board (a .b .now))) (a .u .0) (a .v .0)))
 
 other-gain-requires : tie.Need-other-gain-requires Inv-loop μ-loop
 other-gain-requires c κs = let s = c .before .before in (omega arith, s .pre .0 .range (c .before .loop .y) (omega arith) h-min)
@@ -30,8 +30,8 @@ plus-requires c κs =
     let a = s .args in
     let l = c .before .before .loop in
     let r = side-ranged (a .m) (s .pre .0) in (
-      wider (l .inv .1) (all-within (λ y. a .strict) (l .y) (a .u .0) (a .v .0) r (s .pre .1) (l .inv .0)) (omega arith),
-      wider (c .other-gain .ensures) (other-within (λ y. a .strict) (a .u .0) (a .v .0) (l .y) r (c .before .loop-test .taken)) (omega arith),
+      wider (l .inv .1) (all-within (strict-at (a .m) (a .strict) (a .later) (board (a .b .now))) (l .y) (a .u .0) (a .v .0) r (s .pre .1) (l .inv .0)) (omega arith),
+      wider (c .other-gain .ensures) (other-within (strict-at (a .m) (a .strict) (a .later) (board (a .b .now))) (a .u .0) (a .v .0) (l .y) r (c .before .loop-test .taken)) (omega arith),
     )
 
 add-y : tie.Need-add-y Inv-loop μ-loop
@@ -44,7 +44,7 @@ loop-again : tie.Need-loop-again Inv-loop μ-loop
 loop-again c =
     let a = c .before .before .before .before .args in
     let l = c .before .before .before .loop in
-    (omega arith, sum-more (a .q .0) (other-gains (λ y. a .strict) (side (a .m) (board (a .b .now))) (a .u .0) (a .v .0)) (l .y) (l .inv .1) (c .before .other-gain .ensures) (c .plus .ensures))
+    (omega arith, sum-more (a .q .0) (other-gains (strict-at (a .m) (a .strict) (a .later) (board (a .b .now))) (side (a .m) (board (a .b .now))) (a .u .0) (a .v .0)) (l .y) (l .inv .1) (c .before .other-gain .ensures) (c .plus .ensures))
 
 returns : tie.Need-returns Inv-loop μ-loop
 returns c = let e : c .before .loop .y ≡ c .before .before .args .n = omega arith in rw e at (c .before .loop .inv .1)

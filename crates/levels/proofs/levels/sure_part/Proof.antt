@@ -16,7 +16,7 @@ returns : tie.Need-returns
 returns c =
     let s = c .before .before in
     let a = s .args in
-    sure-level (as-view (a .view)) (seen-by (a .view) (board (a .b .now))) (side-ranged (a .view .mirror) (s .pre .ranged)) (c .before .e-min .ensures) (c .most-in .ensures)
+    sure-level (as-view (a .view) (board (a .b .now))) (seen-by (a .view) (board (a .b .now))) (side-ranged (a .view .mirror) (s .pre .ranged)) (c .before .e-min .ensures) (c .most-in .ensures)
 
 pub sure-part-spec : {M : Type 1} → statement M
 sure-part-spec = tie.close (tie.spec e-min-requires most-in-requires returns)

@@ -6,6 +6,9 @@ use borrow.Author.Needs.{needs}
 use Rattle.levels.proofs.views.place.Statement.{statement}
 use Rattle.levels.proofs.views.place.Tie as tie
 
+strict-at-requires : tie.Need-strict-at-requires
+strict-at-requires c κs = search needs
+
 t-max-requires : tie.Need-t-max-requires
 t-max-requires c κs = search needs
 
@@ -24,13 +27,14 @@ placed-requires c κs = search needs
 returns : tie.Need-returns
 returns c =
     let k = c .before .before .before .before .before in
-    let a = k .before .args in
-    placed-at (a .view .mirror) (as-view (a .view)) (board (a .b .now)) (a .u .0) (a .v .0) (a .y) (k .t-max .ensures) (c .before .before .before .before .ahead .ensures) (c .before .before .before .t-min .ensures) (c .before .before .ahead2 .ensures) (c .placed .ensures)
+    let a = k .before .before .args in
+    placed-at (a .view .mirror) (as-view (a .view) (board (a .b .now))) (board (a .b .now)) (a .u .0) (a .v .0) (a .y) (k .before .strict-at .ensures) (k .t-max .ensures) (c .before .before .before .before .ahead .ensures) (c .before .before .before .t-min .ensures) (c .before .before .ahead2 .ensures) (c .placed .ensures)
 
 pub place-spec : {M : Type 1} → statement M
 place-spec =
     tie.close
     (tie.spec
+    strict-at-requires
     t-max-requires
     ahead-requires
     t-min-requires

@@ -18,7 +18,7 @@ place-requires c κs = search needs
 returns : tie.Need-returns
 returns c =
     let a = c .before .before .before .args in
-    stands-at (as-view (a .view)) (seen-by (a .view) (board (a .b .now))) (a .y) (c .before .before .e-min .ensures) (c .before .e-max .ensures) (c .place .ensures)
+    stands-at (as-view (a .view) (board (a .b .now))) (seen-by (a .view) (board (a .b .now))) (a .y) (c .before .before .e-min .ensures) (c .before .e-max .ensures) (c .place .ensures)
 
 pub stands-spec : {M : Type 1} → statement M
 stands-spec = tie.close (tie.spec e-min-requires e-max-requires place-requires returns)

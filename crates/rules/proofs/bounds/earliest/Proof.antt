@@ -13,13 +13,13 @@ use Rattle.rules.proofs.bounds.earliest.Statement.{statement}
 use Rattle.rules.proofs.bounds.earliest.Tie as tie
 
 abbrev Inv-loop : tie.InvT-loop
-Inv-loop b view s₀ n y₀ s y = (y ≤ n) × (soonest-of (s .best) ≡ earliest (as-view view) (seen-by view (board b)) y) × Short (as-view view) (seen-by view (board b)) (s .short)
+Inv-loop b view s₀ n y₀ s y = (y ≤ n) × (soonest-of (s .best) ≡ earliest (as-view view (board b)) (seen-by view (board b)) y) × Short (as-view view (board b)) (seen-by view (board b)) (s .short)
 
 abbrev μ-loop : tie.MeasureT-loop
 μ-loop b view s₀ n y₀ s y = n - y
 
 loop-holds : tie.Need-loop-holds Inv-loop μ-loop
-loop-holds c = let a = c .args in (omega arith, earliest-none (as-view (a .view)) (seen-by (a .view) (board (a .b .now))), λ (q : false ≡ true). absurd (subst T (sym q) tt))
+loop-holds c = let a = c .args in (omega arith, earliest-none (as-view (a .view) (board (a .b .now))) (seen-by (a .view) (board (a .b .now))), λ (q : false ≡ true). absurd (subst T (sym q) tt))
 
 search-event-requires : tie.Need-search-event-requires Inv-loop μ-loop
 search-event-requires c κs = (c .before .before .pre, c .loop-test .taken, c .before .loop .inv .2)
@@ -35,7 +35,7 @@ loop-again c =
     let a = c .before .before .before .args in
     let l = c .before .before .loop in
     let x = c .search-event .ensures in
-    (omega arith, earliest-more (as-view (a .view)) (seen-by (a .view) (board (a .b .now))) (l .y) (l .inv .1) (x .0), x .1)
+    (omega arith, earliest-more (as-view (a .view) (board (a .b .now))) (seen-by (a .view) (board (a .b .now))) (l .y) (l .inv .1) (x .0), x .1)
 
 returns : tie.Need-returns Inv-loop μ-loop
 returns c = let e : c .before .before .loop .y ≡ c .before .before .before .args .view .events = omega arith in rw e at (c .before .before .loop .inv .1)

@@ -21,7 +21,7 @@ minus-requires c κs =
     let s = c .before .before in
     let a = s .args in
     let p = s .pre .0 in
-    let E = as-view (a .view) in
+    let E = as-view (a .view) (board (a .b .now)) in
     let W = seen-by (a .view) (board (a .b .now)) in
     let r = side-ranged (a .view .mirror) (p .ranged) in (
       wider (c .before .most .ensures) (most-within E (e-min E W) (e-max E W) r (p .opening-range)) (omega arith),
@@ -33,7 +33,7 @@ minus-requires-2 c κs =
     let s = c .before .before .before in
     let a = s .args in
     let p = s .pre .0 in
-    let E = as-view (a .view) in
+    let E = as-view (a .view) (board (a .b .now)) in
     let W = seen-by (a .view) (board (a .b .now)) in
     let r = side-ranged (a .view .mirror) (p .ranged) in
     let level = wider {l = 1640000} (c .before .before .most .ensures) (most-within E (e-min E W) (e-max E W) r (p .opening-range)) (omega arith) in

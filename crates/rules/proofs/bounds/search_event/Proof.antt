@@ -20,7 +20,7 @@ returns : tie.Need-returns
 returns c =
     let s = c .before .before .before .before .before in
     let a = s .args in
-    let E = as-view (a .view) in
+    let E = as-view (a .view) (board (a .b .now)) in
     let W = seen-by (a .view) (board (a .b .now)) in
     let at = c .before .before .starts .ensures in
     (best-stays (a .s .best .found) (reached-at E W (a .y)) (a .s .best .at .0) at (c .before .is-beaten .ensures) (c .if1 .taken), s .pre .2)
@@ -32,7 +32,7 @@ returns-2 : tie.Need-returns-2
 returns-2 c =
     let s = c .before .before .before .before .before .before .before in
     let a = s .args in
-    let E = as-view (a .view) in
+    let E = as-view (a .view) (board (a .b .now)) in
     let W = seen-by (a .view) (board (a .b .now)) in
     let at = c .before .before .before .before .starts .ensures in
     let none = short-unreached E W (a .y) (a .s .short) (s .pre .2) at (c .before .falls-short .ensures) (c .if2 .taken) in
@@ -45,7 +45,7 @@ returns-3 : tie.Need-returns-3
 returns-3 c =
     let s = c .before .before .before .before .before .before .before .before .before in
     let a = s .args in
-    let E = as-view (a .view) in
+    let E = as-view (a .view) (board (a .b .now)) in
     let W = seen-by (a .view) (board (a .b .now)) in
     let at = c .before .before .before .before .before .before .starts .ensures in
     (best-new (a .s .best .found) (reached-at E W (a .y)) (a .s .best .at .0) at (c .before .before .before .before .before .is-beaten .ensures) (c .before .before .before .before .if1 .left) (c .before .reached-at .ensures) (c .if3 .taken), s .pre .2)
@@ -57,7 +57,7 @@ returns-4 : tie.Need-returns-4
 returns-4 c =
     let s = c .before .before .before .before .before .before .before .before .before .before .before in
     let a = s .args in
-    let E = as-view (a .view) in
+    let E = as-view (a .view) (board (a .b .now)) in
     let W = seen-by (a .view) (board (a .b .now)) in
     let at = c .before .before .before .before .before .before .before .before .starts .ensures in (
       best-alone (a .s .best .found) (reached-at E W (a .y)) (a .s .best .at .0) at (c .before .before .before .before .before .before .before .is-beaten .ensures) (c .before .before .before .reached-at .ensures) (c .before .before .if3 .left),
@@ -68,7 +68,7 @@ returns-5 : tie.Need-returns-5
 returns-5 c =
     let s = c .before .before .before .before .before .before .before .before .before .before .before in
     let a = s .args in
-    let E = as-view (a .view) in
+    let E = as-view (a .view) (board (a .b .now)) in
     let W = seen-by (a .view) (board (a .b .now)) in
     let at = c .before .before .before .before .before .before .before .before .starts .ensures in
     (best-alone (a .s .best .found) (reached-at E W (a .y)) (a .s .best .at .0) at (c .before .before .before .before .before .before .before .is-beaten .ensures) (c .before .before .before .reached-at .ensures) (c .before .before .if3 .left), s .pre .2)

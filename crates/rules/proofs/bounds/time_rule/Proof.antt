@@ -16,10 +16,10 @@ earliest-requires : tie.Need-earliest-requires
 earliest-requires c κs = search needs
 
 returns : tie.Need-returns
-returns c = let a = c .before .before .before .before .args in time-yes (as-view (a .view)) (seen-by (a .view) (board (a .b .now))) (c .before .before .before .sure-part .ensures) (c .before .before .below .ensures) (c .before .if1 .taken) (c .earliest .ensures)
+returns c = let a = c .before .before .before .before .args in time-yes (as-view (a .view) (board (a .b .now))) (seen-by (a .view) (board (a .b .now))) (c .before .before .before .sure-part .ensures) (c .before .before .below .ensures) (c .before .if1 .taken) (c .earliest .ensures)
 
 returns-2 : tie.Need-returns-2
-returns-2 c = let a = c .before .before .before .args in time-no (as-view (a .view)) (seen-by (a .view) (board (a .b .now))) (c .before .before .sure-part .ensures) (c .before .below .ensures) (c .if1 .left)
+returns-2 c = let a = c .before .before .before .args in time-no (as-view (a .view) (board (a .b .now))) (seen-by (a .view) (board (a .b .now))) (c .before .before .sure-part .ensures) (c .before .below .ensures) (c .if1 .left)
 
 pub time-rule-spec : {M : Type 1} → statement M
 time-rule-spec =

@@ -20,7 +20,7 @@ side-height-requires c κs =
     let s = c .before .before .before in
     let a = s .args in
     let p = s .pre .0 in
-    wider (c .height-bound .ensures) (bound-within (as-view (a .view)) (a .y) (side-ranged (a .view .mirror) (p .ranged)) (p .limit-range) (p .opening-range) (s .pre .1)) (omega arith)
+    wider (c .height-bound .ensures) (bound-within (as-view (a .view) (board (a .b .now))) (a .y) (side-ranged (a .view .mirror) (p .ranged)) (p .limit-range) (p .opening-range) (s .pre .1)) (omega arith)
 
 returns : tie.Need-returns
 returns c = let a = c .before .before .before .before .args in height-yes (a .view) (board (a .b .now)) (a .y) (c .before .before .before .is-target .ensures) (c .before .before .if1 .taken) (c .before .height-bound .ensures) (c .side-height .ensures)

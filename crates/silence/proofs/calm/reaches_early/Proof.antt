@@ -24,7 +24,7 @@ at-most-requires c κs = search needs
 returns : tie.Need-returns
 returns c =
     let a = c .before .before .before .before .before .args in
-    early-at (as-view (a .view)) (seen-by (a .view) (board (a .b .now))) (c .before .before .before .before .e-min .ensures) (c .before .before .before .e-max .ensures) (c .before .before .no-later .ensures) (c .before .most-in .ensures) (c .at-most .ensures)
+    early-at (as-view (a .view) (board (a .b .now))) (seen-by (a .view) (board (a .b .now))) (c .before .before .before .before .e-min .ensures) (c .before .before .before .e-max .ensures) (c .before .before .no-later .ensures) (c .before .most-in .ensures) (c .at-most .ensures)
 
 pub reaches-early-spec : {M : Type 1} → statement M
 reaches-early-spec =

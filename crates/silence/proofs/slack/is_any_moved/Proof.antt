@@ -23,14 +23,18 @@ may-move-requires c κs = let s = c .before .before .before in let p = s .pre in
 one-requires : tie.Need-one-requires
 one-requires c κs = search needs
 
+strict-at-requires : tie.Need-strict-at-requires
+strict-at-requires c κs = search needs
+
 is-spared-requires : tie.Need-is-spared-requires
-is-spared-requires c κs = let s = c .before .before .before .before .before in let p = s .pre in let e = s .args .view .subject in (omega (arith, p .subject, p .ranged .few), p .ranged .range e (p .subject) h-min, p .ranged .range e (p .subject) h-max)
+is-spared-requires c κs = let s = c .before .before .before .before .before .before in let p = s .pre in let e = s .args .view .subject in (omega (arith, p .subject, p .ranged .few), p .ranged .range e (p .subject) h-min, p .ranged .range e (p .subject) h-max)
 
 returns : tie.Need-returns
 returns c =
-    let a = c .before .before .before .before .before .before .args in
+    let k = c .before .before .before .before .before .before in
+    let a = k .before .args in
     let W = board (a .b .now) in
-    some-at (as-view (a .view)) (seen-by (a .view) W) W (a .k .0) (c .before .before .before .before .before .e-min .ensures) (c .before .before .before .before .e-max .ensures) (c .before .before .before .count-moves .ensures .0) (c .before .before .may-move .ensures) (c .before .one .ensures .0) (c .is-spared .ensures)
+    some-at (as-view (a .view) W) (seen-by (a .view) W) W (a .k .0) (k .e-min .ensures) (c .before .before .before .before .before .e-max .ensures) (c .before .before .before .before .count-moves .ensures .0) (c .before .before .before .may-move .ensures) (c .before .before .one .ensures .0) (c .before .strict-at .ensures) (c .is-spared .ensures)
 
 pub is-any-moved-spec : {M : Type 1} → statement M
 is-any-moved-spec =
@@ -41,5 +45,6 @@ is-any-moved-spec =
     count-moves-requires
     may-move-requires
     one-requires
+    strict-at-requires
     is-spared-requires
     returns)

@@ -21,14 +21,14 @@ returns c =
     let a = c .before .before .args in
     let W = board (a .b .now) in
     let X = seen-by (a .view) W in
-    spared-yes (spares (a .k .0) (W (a .y) h-min) (W (a .y) h-max)) (targeted (stands (as-view (a .view)) X (a .y)) (X (a .y) h-max)) (c .before .is-spared .ensures) (c .if1 .taken)
+    spared-yes (spares (a .k .0) (W (a .y) h-min) (W (a .y) h-max)) (targeted (stands (as-view (a .view) W) X (a .y)) (X (a .y) h-max)) (c .before .is-spared .ensures) (c .if1 .taken)
 
 returns-2 : tie.Need-returns-2
 returns-2 c =
     let a = c .before .before .before .args in
     let W = board (a .b .now) in
     let X = seen-by (a .view) W in
-    spared-no (spares (a .k .0) (W (a .y) h-min) (W (a .y) h-max)) (targeted (stands (as-view (a .view)) X (a .y)) (X (a .y) h-max)) (c .before .before .is-spared .ensures) (c .before .if1 .left) (c .is-target .ensures)
+    spared-no (spares (a .k .0) (W (a .y) h-min) (W (a .y) h-max)) (targeted (stands (as-view (a .view) W) X (a .y)) (X (a .y) h-max)) (c .before .before .is-spared .ensures) (c .before .if1 .left) (c .is-target .ensures)
 
 pub is-moved-spec : {M : Type 1} → statement M
 is-moved-spec = tie.close (tie.spec is-spared-requires is-target-requires returns returns-2)

@@ -16,7 +16,7 @@ minus-requires : tie.Need-minus-requires
 minus-requires c κs =
     let s = c .before in
     let a = s .args in
-    let E = as-view (a .view) in
+    let E = as-view (a .view) (board (a .b .now)) in
     let X = seen-by (a .view) (board (a .b .now)) in
     (wider (c .most .ensures) (most-within E (e-min E X) (e-max E X) (side-ranged (a .view .mirror) (s .pre .ranged)) (s .pre .opening-range)) (omega arith), wider refl (s .pre .limit-range) (omega arith))
 
