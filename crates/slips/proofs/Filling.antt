@@ -19,7 +19,7 @@ use Rattle.model.specs.Job.{End, t-min, t-max, h-min, h-max, Windows, Job as Ca
 use Rattle.model.specs.Rules.{rule}
 use Rattle.model.specs.Facts.{quotes, quoted}
 use Rattle.model.specs.Slips.{Premise, number, end, premise-words, quote, premise-list}
-use Rattle.tables.specs.Job.{Holds}
+use Rattle.tables.specs.Job.{Serves}
 use Rattle.tables.specs.declared.Job.{Job}
 use Rattle.rules.specs.Values.{effect-of}
 use Rattle.rules.specs.declared.Effect.{Effect as Done}
@@ -281,19 +281,19 @@ quote-same true false z k v w p q = absurd (subst T p tt)
 quote-same false true z k v w p q = absurd (subst T (sym p) tt)
 quote-same false false z k v w p q = refl
 
-list-same : (n : ℕ) (c c′ : ℕ → End → Bool) (v v′ : ℕ → End → ℤ) → ((z : ℕ) (k : End) → c z k ≡ c′ z k) → ((z : ℕ) (k : End) → T (c z k) → v z k ≡ v′ z k) → premise-list n c v ≡ premise-list n c′ v′
+list-same : (n : ℕ) (c c′ : ℕ → End → Bool) (v v′ : ℕ → End → ℤ) → ((z : ℕ) → z < n → (k : End) → c z k ≡ c′ z k) → ((z : ℕ) → z < n → (k : End) → T (c z k) → v z k ≡ v′ z k) → premise-list n c v ≡ premise-list n c′ v′
 unfolding premise-list
 list-same zero c c′ v v′ p q = refl
 list-same (suc z) c c′ v v′ p q =
-    ap₂ _++_ (list-same z c c′ v v′ p q)
+    ap₂ _++_ (list-same z c c′ v v′ (λ y l. p y (omega arith)) (λ y l. q y (omega arith)))
     (ap₂ _++_ (at t-min) (ap₂ _++_ (at t-max) (ap₂ _++_ (at h-min) (at h-max))))
   where
     at : (k : End) → quote (c z k) z k (v z k) ≡ quote (c′ z k) z k (v′ z k)
-    at k = quote-same (c z k) (c′ z k) z k (v z k) (v′ z k) (p z k) (q z k)
+    at k = quote-same (c z k) (c′ z k) z k (v z k) (v′ z k) (p z (omega arith) k) (q z (omega arith) k)
 
 -- What is cited is what the slip of its rule quotes.
-pub same-premises : {k : Job} {ws : List ℤ} {W : Windows} {r e y : ℕ} {x : Done} {c : Citing} (j : Call) → Holds k ws j → Cites k ws W r e y x c →
+pub same-premises : {k : Job} {ws : List ℤ} {W : Windows} {r e y : ℕ} {x : Done} {c : Citing} (j : Call) → Serves k ws W j → Cites k ws W r e y x c →
     premise-list (k .events) (cites-of c W) (says-of c W) ≡ premise-list (events j) (quotes (rule r) j W e y (effect-of x)) (quoted (rule r) j W e y (effect-of x))
 same-premises {k} {ws} {W} {r} {e} {y} {x} {c} j h s =
-    rw (h .events-are)
+    rw (h .holds .events-are)
     (list-same (k .events) (cites-of c W) (quotes (rule r) j W e y (effect-of x)) (says-of c W) (quoted (rule r) j W e y (effect-of x)) (s .cites j h) (s .says j h))
