@@ -1,6 +1,6 @@
 -- Rounds one after the other: the run that is left from here, with the fuel that is left, is the whole run. Fuel is left, since every round before wrote a slip.
 -- Assumes nothing.
-use mathlib.Core.Path.{_≡_, sym, _∙_}
+use mathlib.Core.Path.{_≡_, refl, sym, _∙_}
 use mathlib.Core.Bool.{Bool, true, false, not}
 use mathlib.Core.List.{List}
 use Prim.Native.Nat.{ℕ, suc, _+_, _-_, _≤_}
@@ -14,9 +14,10 @@ use Rattle.model.specs.Job.{Job as Call}
 use Rattle.model.specs.Agenda.{agenda}
 use Rattle.model.specs.Rounds as model
 use Rattle.model.specs.Rounds.{State, Run, running, ended, settled, round, run, start}
-use Rattle.tables.specs.Board.{table-of}
-use Rattle.tables.specs.Job.{Holds}
+use Rattle.tables.specs.Board.{board, table-of}
+use Rattle.tables.specs.Job.{Kinds, Serves}
 use Rattle.tables.specs.declared.Job.{Job}
+use Rattle.tables.proofs.Holding.{serves-alike}
 use Rattle.rounds.specs.State.{status-of, still, state-of, Held, Grown, Made}
 use Rattle.propagator.specs.Runs.{fresh, verdict-of, Tested, Ran}
 use Rattle.rounds.proofs.Moves.{grown-none, grown-more}
@@ -57,22 +58,23 @@ module _ (room : ℕ) (j : Call) (fuel rounds : ℕ) (s : State) {next : State} 
 
 -- After some rounds, each of which wrote a slip: what is left of the run.
 pub record Rolling (k : Job) (ws b₀ buffer₀ b buffer : List ℤ) (p : Progress) (rounds : ℕ) : Type 0 where
-  pub is : (j : Call) → Holds k ws j → run (length buffer₀) j (length buffer₀ - rounds) rounds (state-of (k .events) b buffer p) ≡ run (length buffer₀) j (length buffer₀) 0 (start (table-of (k .events) b₀))
+  pub is : (j : Call) → Serves k ws (board b₀) j → run (length buffer₀) j (length buffer₀ - rounds) rounds (state-of (k .events) b buffer p) ≡ run (length buffer₀) j (length buffer₀) 0 (start (table-of (k .events) b₀))
+  pub kinds : Kinds (k .events) (board b) (board b₀)
   pub grown : Grown (k .events) buffer₀ fresh b buffer p
   pub begun : rounds ≤ p .slips
 
 pub rolling-start : (k : Job) (ws : List ℤ) {b buffer : List ℤ} {p : Progress} → Held (k .events) b buffer fresh → p ≡ fresh → Rolling k ws b buffer b buffer p 0
-rolling-start k ws h e = rw e (record { is = λ j q. rw sub-zero; grown = grown-none h; begun = omega arith })
+rolling-start k ws h e = rw e (record { is = λ j q. rw sub-zero; kinds = λ y l. refl; grown = grown-none h; begun = omega arith })
 
 module _ {k : Job} {ws b₀ buffer₀ b buffer : List ℤ} {p : Progress} {rounds : ℕ} {b′ buffer′ : List ℤ} {q : Progress}
     (l : Rolling k ws b₀ buffer₀ b buffer p rounds) (m : Made k ws agenda b buffer p b′ buffer′ q) where
-  next-is : (j : Call) → Holds k ws j → state-of (k .events) b′ buffer′ q ≡ round (length buffer₀) j (state-of (k .events) b buffer p)
-  next-is j h = m .is j h ∙ rw (l .grown .same)
+  next-is : (j : Call) → Serves k ws (board b₀) j → state-of (k .events) b′ buffer′ q ≡ round (length buffer₀) j (state-of (k .events) b buffer p)
+  next-is j o = m .is j (serves-alike o (l .kinds)) ∙ rw (l .grown .same)
 
   fuel-left : length buffer₀ - rounds ≡ suc (length buffer₀ - (rounds + 1))
   fuel-left = omega (arith, l .begun, l .grown .held .counted, l .grown .held .trailer-fits, l .grown .same)
 
-  whole-run : (j : Call) → Holds k ws j → {r : Run} → r ≡ run (length buffer₀) j (suc (length buffer₀ - (rounds + 1))) rounds (state-of (k .events) b buffer p) → r ≡ run (length buffer₀) j (length buffer₀) 0 (start (table-of (k .events) b₀))
+  whole-run : (j : Call) → Serves k ws (board b₀) j → {r : Run} → r ≡ run (length buffer₀) j (suc (length buffer₀ - (rounds + 1))) rounds (state-of (k .events) b buffer p) → r ≡ run (length buffer₀) j (length buffer₀) 0 (start (table-of (k .events) b₀))
   whole-run j o h = h ∙ (rw fuel-left at (l .is j o))
 
   pub rolling-ends : {t : Bool} {v : Verdict} → t ≡ still (status-of (q .status)) → not t ≡ true → Tested q v → Ran k ws b₀ buffer₀ b′ buffer′ (record { verdict = v; rounds = rounds + 1; progress = q })
@@ -98,6 +100,7 @@ module _ {k : Job} {ws b₀ buffer₀ b buffer : List ℤ} {p : Progress} {round
     rolling-on e =
         record {
           is = λ j o. whole-run j o (run-goes (length buffer₀) j (length buffer₀ - (rounds + 1)) rounds (state-of (k .events) b buffer p) (next-is j o) on e);
+          kinds = λ y i. m .kinds y i ∙ l .kinds y i;
           grown = grown-more (l .grown) (m .grown);
           begun = omega (arith, l .begun, m .grown .more);
         }

@@ -8,8 +8,8 @@ use lib.ListN.{length}
 use Rattle.model.specs.Job.{Job as Call}
 use Rattle.model.specs.Rounds as model
 use Rattle.model.specs.Rounds.{ended, settled, conflict, stopped, start}
-use Rattle.tables.specs.Board.{table-of}
-use Rattle.tables.specs.Job.{Holds}
+use Rattle.tables.specs.Board.{board, table-of}
+use Rattle.tables.specs.Job.{Serves}
 use Rattle.tables.specs.declared.Job.{Job}
 use Rattle.rounds.specs.State.{status-of, still, state-of, Grown}
 use Rattle.rounds.specs.declared.Progress.{Progress}
@@ -35,7 +35,7 @@ abbrev pub run-of : ℕ → List ℤ → List ℤ → Ended → model.Run
 run-of n b buffer q =
     record { verdict = verdict-of (q .verdict); rounds = q .rounds; state = state-of n b buffer (q .progress) }
 
--- The run from the window table on a board, of every call that the job at hand is of.
+-- The run from the window table on a board, of every call that the job at hand is of and that the board serves.
 pub record Ran (k : Job) (ws b buffer b′ buffer′ : List ℤ) (q : Ended) : Type 0 where
-  pub is : (j : Call) → Holds k ws j → run-of (k .events) b′ buffer′ q ≡ model.run (length buffer) j (length buffer) 0 (start (table-of (k .events) b))
+  pub is : (j : Call) → Serves k ws (board b) j → run-of (k .events) b′ buffer′ q ≡ model.run (length buffer) j (length buffer) 0 (start (table-of (k .events) b))
   pub grown : Grown (k .events) buffer fresh b′ buffer′ (q .progress)

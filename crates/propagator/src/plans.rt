@@ -19,9 +19,9 @@ ghost use Rattle.model.specs.Job.{windows, job, Job as Call};
 ghost use Rattle.model.specs.Standing.{Ranged};
 ghost use Rattle.model.specs.Rounds.{run, start};
 ghost use Rattle.model.specs.Planner.{done, planned, plan};
-ghost use Rattle.tables.specs.Job.{Holds, Fit};
+ghost use Rattle.tables.specs.Job.{Serves, Fit};
 ghost use Rattle.propagator.specs.Runs.{verdict-of};
-ghost use Rattle.propagator.specs.Plans.{reply-of, Outcomes};
+ghost use Rattle.propagator.specs.Plans.{reply-of, OneKind, Outcomes};
 ghost use Rattle.propagator.specs.declared.Answer.the-variants.{Refused};
 
 // The answer of a run that has ended, with the list's length.
@@ -48,13 +48,14 @@ pub fn planned(k: Job, table: &mut [i32], lags: &[i32], buffer: &mut [i32]) -> A
         Fit k (now lags)
         × (length (now table) ≡ 4 * k .events)
         × Ranged (k .events) (windows (now table))
+        × OneKind (k .events) (windows (now table))
         × (3 ≤ length (now buffer))
         × (length (now buffer) ≤ 1000000)
         ⌝ }
     ensures { λ r. ⌜
         (
         (j : Call) →
-        Holds k (now (lags .entry)) j →
+        Serves k (now (lags .entry)) (windows (now (table .entry))) j →
         Outcomes
         (planned (run (length (now (buffer .entry))) j (length (now (buffer .entry))) 0 (start (now (table .entry)))) (now (buffer .entry)))
         (now (table .exit)) (now (buffer .exit)) r

@@ -10,7 +10,7 @@ load-requires c κs = search needs
 run-requires : tie.Need-run-requires
 run-requires c κs =
     let s = c .before .before .before .before .before in
-    (s .pre .0, held-start (s .args .buffer .now) (c .before .before .load .ensures) (s .pre .2) (s .pre .3) (s .pre .4))
+    (s .pre .0, held-start (s .args .buffer .now) (c .before .before .load .ensures) (s .pre .2) (s .pre .3) (s .pre .4) (s .pre .5))
 
 append-trailer-requires : tie.Need-append-trailer-requires
 append-trailer-requires c κs = search needs
