@@ -1,9 +1,9 @@
 -- What a slip that names what is there gives its later questions.
 -- Assumes nothing.
-use mathlib.Core.Path.{_≡_, refl}
+use mathlib.Core.Path.{_≡_, refl, sym, ap, _∙_}
 use mathlib.Core.Bool.{Bool, true, false, _&&_}
 use mathlib.Core.List.{List}
-use Prim.Native.Nat.{ℕ, _*_}
+use Prim.Native.Nat.{ℕ, _*_, _≤_}
 use native.Mathlib.Omega.{arith}
 use lib.Dec.{T}
 use lib.IntN.{ℤ, pos, natAbs}
@@ -11,7 +11,7 @@ use lib.ListN.{length}
 use lib.Signed.{leZ}
 use Rattle.integers.specs.Range.{Within}
 use Rattle.integers.proofs.Linear.{ints}
-use Rattle.model.specs.Job.{End, t-min, t-max, h-min, h-max, meets, Windows, Inside, Job as Call, events}
+use Rattle.model.specs.Job.{End, t-min, t-max, h-min, h-max, meets, Windows, produces, Inside, Job as Call, events}
 use Rattle.model.specs.Standing.{span, Ranged}
 use Rattle.model.specs.Rules.{subjects, target-fits}
 use Rattle.model.specs.Slips.{Premise, Explanation, rule-of, subject-of, target-of}
@@ -19,8 +19,11 @@ use Rattle.model.specs.Questions.{is-event}
 use Rattle.model.specs.Reader.{names, premises-fit, kind-fits, all-true, narrowed}
 use Rattle.model.proofs.Order.{inside-narrowed, narrowed-in}
 use Rattle.model.proofs.Sound.{named}
-use Rattle.tables.specs.Job.{Holds, Fit}
+use Rattle.tables.specs.Board.{board, table-of}
+use Rattle.tables.specs.Job.{Holds, Kinds, Serves, Fit}
 use Rattle.tables.specs.declared.Job.{Job}
+use Rattle.tables.proofs.Board.{length-table, windows-board}
+use Rattle.tables.proofs.Holding.{serves-alike}
 use Rattle.slips.specs.Slip.{explanation-of, Stands}
 use Rattle.slips.specs.declared.Slip.{Slip}
 use Rattle.judging.specs.Ready.{call-of, Attempts, Same}
@@ -29,7 +32,13 @@ use Rattle.judging.proofs.Named.{subjects-are, event-is}
 pub holds-of : {k : Job} {table : List ℤ} (ws : List ℤ) → length table ≡ 4 * k .events → Holds k ws (call-of k ws table)
 holds-of ws e = record { horizon-is = refl; reservoir-is = refl; events-are = omega arith; lags-are = refl }
 
--- ---- ranges
+-- It serves the call with its window table.
+pub serves-of : {k : Job} (ws b : List ℤ) → Serves k ws (board b) (call-of k ws (table-of (k .events) b))
+serves-of {k} ws b =
+    let h = holds-of ws (length-table (k .events) b) in
+    record { holds = h; kinds = λ y l. ap produces (sym (windows-board (k .events) b y h-max (rw (h .events-are) at l))) }
+
+-- ---- ranges and deliveries
 
 between : (k : End) (a x w : ℤ) (n : ℕ) → Within a n → Within w n → T (meets k a x) → T (meets k x w) → Within x n
 between t-min a x w n p q f g = omega ints
@@ -44,9 +53,21 @@ narrowed-range {n} {wide} {W} fs p q i t =
     let b = inside-narrowed i fs t in
     record { few = p .few; range = λ y l k. between k (wide y k) (narrowed wide fs y k) (W y k) (span k) (p .range y l k) (q .range y l k) (a .inside y l k) (b .inside y l k) }
 
+-- So the same are deliveries.
+pub narrowed-kinds : {n : ℕ} {wide W : Windows} (fs : List Premise) → Inside n wide W → Kinds n wide W → T (all-true W fs) → Kinds n (narrowed wide fs) W
+narrowed-kinds {n} {wide} {W} fs i k t y l =
+    go (produces (W y h-max)) refl (narrowed-in n wide fs .inside y l h-max) (inside-narrowed i fs t .inside y l h-max)
+  where
+    go : (p : Bool) → produces (W y h-max) ≡ p → T (leZ (narrowed wide fs y h-max) (wide y h-max)) → T (leZ (W y h-max) (narrowed wide fs y h-max)) → produces (narrowed wide fs y h-max) ≡ p
+    go true q a b = omega ints
+    go false q a b = let z = k y l ∙ q in omega ints
+
 -- ---- its rule can be tried
 
--- On windows that agree on a board's events as well.
+-- On windows that agree on a board's events as well; these serve the same calls.
+pub serves-same : {k : Job} {ws : List ℤ} {W X : Windows} {j : Call} → k .events ≤ 64 → Same W X → Serves k ws X j → Serves k ws W j
+serves-same few s h = serves-alike h (λ y l. ap produces (s y (omega arith) h-max))
+
 pub attempts-same : {k : Job} {ws : List ℤ} {W X : Windows} {s : Slip} {e y : ℕ} → Same W X → Attempts k ws X s e y → Attempts k ws W s e y
 attempts-same s a =
     let t = a .tries in

@@ -11,7 +11,7 @@ use Rattle.model.specs.Standing.{Ranged}
 use Rattle.model.specs.Slips.{Premise, premise-event, premise-end}
 use Rattle.model.specs.Questions.{Check, pass, refuse, is-event, in-range}
 use Rattle.tables.specs.Board.{board, Whole}
-use Rattle.tables.specs.Job.{reservoir-of, Fit}
+use Rattle.tables.specs.Job.{reservoir-of, Kinds, Fit}
 use Rattle.tables.specs.declared.Job.{Job}
 use Rattle.rules.specs.Values.{Tries}
 use Rattle.slips.specs.declared.Slip.{Slip}
@@ -28,13 +28,14 @@ call-of k ws table =
 
 -- ---- a slip
 
--- The job's numbers are in range, the wide board is, and the standing windows on the board b lie inside it.
+-- The job's numbers are in range, the wide board is, and the standing windows on the board b lie inside it, with the same deliveries.
 pub record Ready (k : Job) (ws wide b : List ℤ) : Type 0 where
   pub fit : Fit k ws
   pub whole : Whole wide
   pub wide-range : Ranged (k .events) (board wide)
   pub range : Ranged (k .events) (board b)
   pub inside : Inside (k .events) (board wide) (board b)
+  pub kinds : Kinds (k .events) (board wide) (board b)
 
 -- The slip's rule can be tried on windows W with its subject e and its target y.
 pub record Attempts (k : Job) (ws : List ℤ) (W : Windows) (s : Slip) (e y : ℕ) : Type 0 where

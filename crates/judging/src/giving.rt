@@ -27,7 +27,7 @@ ghost use Rattle.model.specs.Rules.{rule, own-end};
 ghost use Rattle.model.specs.Slips.{Premise};
 ghost use Rattle.model.specs.Reader.{narrowed, premises-fit, names, as-strict, gives, fits-there, slip-questions};
 ghost use Rattle.tables.specs.Board.{board, Whole};
-ghost use Rattle.tables.specs.Job.{Holds};
+ghost use Rattle.tables.specs.Job.{Serves};
 ghost use Rattle.rules.specs.Values.{finding-of};
 ghost use Rattle.slips.specs.Slip.{headed, explanation-of, Stands};
 ghost use Rattle.judging.specs.Ready.{Ready, Attempts, numbered};
@@ -49,7 +49,12 @@ fn as_strict(r: usize, v: Word, f: Finding) -> bool
 // 16. Does the slip's rule, with subject e and target y, give its conclusion or a stricter one on the windows of the board?
 fn rule_gives(b: &[i32; 256], lags: &[i32], k: Job, s: Slip, e: usize, y: usize) -> bool
     requires { ⌜ Attempts k (now lags) (board (now b)) s e y ⌝ }
-    ensures { λ r. ⌜ ((j : Call) → Holds k (now (lags .entry)) j → (fs : List Premise) → r ≡ gives j (board (now (b .entry))) (headed s fs)) ⌝ }
+    ensures { λ r. ⌜ (
+        (j : Call) →
+        Serves k (now (lags .entry)) (board (now (b .entry))) j →
+        (fs : List Premise) →
+        r ≡ gives j (board (now (b .entry))) (headed s fs)
+        ) ⌝ }
 {
     let r = s.rule;
     let f = finding(b, lags, k, r, e, y);
@@ -77,7 +82,7 @@ fn facts_give(
         ⌝ }
     ensures { λ r. ⌜ (
         (j : Call) →
-        Holds k (now (lags .entry)) j →
+        Serves k (now (lags .entry)) (narrowed (board (now (wide .entry))) (explanation-of (now (list .entry)) s .premises)) j →
         T (names j (explanation-of (now (list .entry)) s)) →
         r
         ≡ gives j (narrowed (board (now (wide .entry))) (explanation-of (now (list .entry)) s .premises)) (explanation-of (now (list .entry)) s)
@@ -118,7 +123,7 @@ pub fn slip_questions(
     requires { ⌜ Ready k (now lags) (now wide) (now b) × Stands (now list) s ⌝ }
     ensures { λ q. ⌜ (
         (j : Call) →
-        Holds k (now (lags .entry)) j →
+        Serves k (now (lags .entry)) (board (now (b .entry))) j →
         numbered q
         ≡ slip-questions j (board (now (wide .entry))) (board (now (b .entry))) (explanation-of (now (list .entry)) s) left
         ) ⌝ }

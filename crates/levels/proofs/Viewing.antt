@@ -9,8 +9,9 @@ use Rattle.integers.proofs.Linear.{ints, neg-law}
 use Rattle.model.specs.Job.{h-min, h-max, Windows, Reservoir, Job, events, sent}
 use Rattle.model.specs.Standing.{SaneCage, Ranged}
 use Rattle.model.specs.View.{side-value, side-limit, View, view-of, view, seen}
+use Rattle.model.specs.Levels.{most}
 use Rattle.model.specs.Rules.{Family, family-rule}
-use Rattle.model.proofs.Agree.{at-hand, family-rule-agree}
+use Rattle.model.proofs.Agree.{at-hand, most-agree, family-rule-agree}
 use Rattle.tables.specs.Job.{Kinds}
 use Rattle.levels.specs.Values.{strict-at, Views, Sighted}
 use Rattle.levels.specs.declared.View.{View as Sight}
@@ -67,6 +68,10 @@ module _ {n : ℕ} {c : Reservoir} {m b : Bool} {e : ℕ} {v : Sight} (s : Views
 module _ (j : Job) (m b : Bool) (e : ℕ) (W : Windows) (kinds : Kinds (events j) W (sent j)) where
   pub before-here : (y : ℕ) → y < events j → view j m b e .before y ≡ at-hand j m b e W .before y
   before-here y l = ap (λ p. b || (not m && (eqZ (j .reservoir .cover) (pos 0) && p))) (sym (kinds y l))
+
+  pub most-here : e < events j → most (view j m b e) (seen j m e W) ≡ most (at-hand j m b e W) (seen j m e W)
+  most-here =
+      most-agree (view j m b e) (at-hand j m b e W .before) before-here (seen j m e W) (seen j m e W) (λ z l k. refl)
 
   pub rule-here : e < events j → (f : Family) (y : ℕ) → y < events j → family-rule f (view j m b e) (seen j m e W) y ≡ family-rule f (at-hand j m b e W) (seen j m e W) y
   rule-here =

@@ -16,11 +16,13 @@ use Rattle.model.specs.Rounds.{made}
 use Rattle.model.proofs.Sweeps.{made-append, made-more}
 use Rattle.tables.specs.Board.{board, table-of}
 use Rattle.tables.proofs.Board.{windows-board}
+use Rattle.tables.proofs.Holding.{serves-alike}
 use Rattle.tables.specs.Job.{reservoir-of, Holds, Fit}
 use Rattle.tables.specs.declared.Job.{Job}
 use Rattle.tables.specs.declared.Height.{Height}
 use Rattle.levels.specs.Values.{Views}
 use Rattle.levels.specs.declared.View.{View as Sight}
+use Rattle.levels.proofs.Viewing.{subject-is}
 use Rattle.rules.specs.Values.{subjects-of, Tries}
 use Rattle.slips.proofs.Wording.{drop-later}
 use Rattle.rounds.specs.State.{state-of, Held, Grown, Made}
@@ -53,14 +55,15 @@ module _ {k : Job} {ws : List ℤ} where
   -- None.
   pub made-none : (f : ℕ → Call → List Attempt) {b buffer : List ℤ} {p : Progress} → Held (k .events) b buffer p → Made k ws (λ j. each-of (λ i. f i j) 0 0) b buffer p b buffer p
   unfolding each-of made
-  made-none f h = record { is = λ j q. refl; grown = grown-none h }
+  made-none f h = record { is = λ j q. refl; kinds = λ y l. refl; grown = grown-none h }
 
   module _ {b buffer : List ℤ} {p : Progress} {b′ buffer′ : List ℤ} {p′ : Progress} {b″ buffer″ : List ℤ} {p″ : Progress} where
     -- These, then those: the room is the buffer's length and stays.
     pub made-both : (f g : Call → List Attempt) → Made k ws f b buffer p b′ buffer′ p′ → Made k ws g b′ buffer′ p′ b″ buffer″ p″ → Made k ws (λ j. f j ++ g j) b buffer p b″ buffer″ p″
     made-both f g m o =
         record {
-          is = λ j q. o .is j q ∙ rw (m .grown .same, m .is j q) (sym (made-append (length buffer) j (f j) (g j) (state-of (k .events) b buffer p)));
+          is = λ j q. o .is j (serves-alike q (m .kinds)) ∙ rw (m .grown .same, m .is j q) (sym (made-append (length buffer) j (f j) (g j) (state-of (k .events) b buffer p)));
+          kinds = λ y l. o .kinds y l ∙ m .kinds y l;
           grown = grown-more (m .grown) (o .grown);
         }
 
@@ -68,13 +71,14 @@ module _ {k : Job} {ws : List ℤ} where
     pub made-on : (f : ℕ → Call → List Attempt) (i : ℕ) → Made k ws (λ j. each-of (λ i. f i j) 0 i) b buffer p b′ buffer′ p′ → Made k ws (f i) b′ buffer′ p′ b″ buffer″ p″ → Made k ws (λ j. each-of (λ i. f i j) 0 (i + 1)) b buffer p b″ buffer″ p″
     made-on f i m o =
         record {
-          is = λ j q. o .is j q ∙ rw (m .grown .same, m .is j q) (sym (made-more (length buffer) j (λ i. f i j) i (state-of (k .events) b buffer p)));
+          is = λ j q. o .is j (serves-alike q (m .kinds)) ∙ rw (m .grown .same, m .is j q) (sym (made-more (length buffer) j (λ i. f i j) i (state-of (k .events) b buffer p)));
+          kinds = λ y l. o .kinds y l ∙ m .kinds y l;
           grown = grown-more (m .grown) (o .grown);
         }
 
   -- The same list in other words.
   pub made-as : {f g : Call → List Attempt} {b buffer : List ℤ} {p : Progress} {b′ buffer′ : List ℤ} {p′ : Progress} → ((j : Call) → Holds k ws j → f j ≡ g j) → Made k ws f b buffer p b′ buffer′ p′ → Made k ws g b buffer p b′ buffer′ p′
-  made-as e m = record { is = λ j q. rw (← e j q) (m .is j q); grown = m .grown }
+  made-as e m = record { is = λ j q. rw (← e j (q .holds)) (m .is j q); kinds = m .kinds; grown = m .grown }
 
 -- Rules 1 and 2 of a lag, at its events.
 pub lag-made : {k : Job} {ws : List ℤ} (g : ℕ) {a z : ℕ} {b buffer : List ℤ} {p : Progress} {b′ buffer′ : List ℤ} {p′ : Progress} {b″ buffer″ : List ℤ} {p″ : Progress} → a ≡ natAbs (lag-word ws g 0) → z ≡ natAbs (lag-word ws g 1)
@@ -96,19 +100,13 @@ module _ {k : Job} {ws b buffer : List ℤ} {p : Progress} (fit : Fit k ws) (hel
 
 -- A view says itself what it is of.
 module _ {n : ℕ} {c : Reservoir} {m b : Bool} {e : ℕ} {v : Sight} (s : Views n c m b e v) where
-  pub subject-is : v .subject ≡ e
-  subject-is = ap (λ (E : View). E .subject) (s .is)
-
-  strict-is : v .strict ≡ b
-  strict-is = ap (λ (E : View). E .before 0) (s .is)
-
   own-view : Views n c (v .mirror) (v .strict) (v .subject) v
-  own-view = record { is = s .is ∙ rw (s .side-is, strict-is, subject-is); side-is = refl }
+  own-view = record { is = λ W. s .is W ∙ rw (s .side-is, s .strict-is, subject-is s); side-is = refl; strict-is = refl }
 
 -- They are the families' of the view at e of a side, before or by.
 module _ (k : Job) {m b : Bool} {e : ℕ} {v : Sight} (s : Views (k .events) (reservoir-of (k .reservoir)) m b e v) (l : e < k .events) where
   sees : (r : ℕ) {f : Family} → 3 ≤ r → r ≤ 14 → rule r ≡ reservoir m b f → Sees k r f v
-  sees r low high i = record { first = low; last = high; rule-is = i ∙ rw (s .side-is, strict-is s); views = own-view s; subject = rw (subject-is s) l }
+  sees r low high i = record { first = low; last = high; rule-is = i ∙ rw (s .side-is, s .strict-is); views = own-view s; subject = rw (subject-is s) l }
 
   module _ {r : ℕ} (t : Three r m b) where
     pub sees-level : Sees k r level v

@@ -11,7 +11,8 @@ use lib.IntN.{ℤ}
 use lib.ListN.{length, take, set, length-set}
 use lib.Seq.{length-take-le}
 use Rattle.integers.specs.Range.{Within}
-use Rattle.model.specs.Job.{End, t-min, t-max, h-min, h-max, word, windows, events, Job as Call}
+use Rattle.integers.proofs.Linear.{ints}
+use Rattle.model.specs.Job.{End, t-min, t-max, h-min, h-max, word, windows, Windows, produces, events, Job as Call}
 use Rattle.model.specs.Standing.{span, Ranged}
 use Rattle.model.specs.Rules.{Rule, lag-upper, lag-lower, reservoir, rule, subjects, own-end, finding, Effect, idle, narrows, fails, effect}
 use Rattle.model.specs.Slips.{slip-words, explanation}
@@ -21,11 +22,11 @@ use Rattle.model.specs.Rounds.{State, running, ended, recorded, fits, acted, at
 use Rattle.model.proofs.Agree.{Agree, agree-sym, outcome-agree, explanation-agree}
 use Rattle.model.proofs.Words.{slip-words-length, premise-list-length}
 use Rattle.tables.specs.Board.{Whole, board, table-of}
-use Rattle.tables.specs.Job.{Holds, Fit}
+use Rattle.tables.specs.Job.{Holds, Serves, Fit}
 use Rattle.tables.specs.declared.Job.{Job}
 use Rattle.tables.proofs.Board.{table-set, board-set-same, board-set-event, board-set-end}
 use Rattle.tables.proofs.Holding.{sane-of}
-use Rattle.rules.specs.Values.{effect-of, is-idle, subjects-of, Tries, Does}
+use Rattle.rules.specs.Values.{effect-of, is-idle, subjects-of, Narrower, Tries, Does}
 use Rattle.rules.specs.declared.Effect.{Effect as Done}
 use Rattle.facts.specs.Quotes.{cites-of, says-of, Cites}
 use Rattle.facts.specs.declared.Citing.{Citing}
@@ -124,6 +125,41 @@ stored-ranged b k y idle w r m f = r
 stored-ranged b k y (narrows v) w r m f = ranged-set b y k v w r m (f v refl)
 stored-ranged b k y fails w r m f = r
 
+-- A new end of an amount is a delivery's where the amounts are.
+new-sign : (W : Windows) (y : ℕ) (k : End) (v : ℤ) → 2 ≤ word k → produces (W y h-min) ≡ produces (W y h-max) → Narrower W y k v → produces v ≡ produces (W y h-max)
+new-sign W y t-min v l s n = absurd (omega arith)
+new-sign W y t-max v l s n = absurd (omega arith)
+new-sign W y h-min v l s n = go (produces (W y h-max)) refl
+  where
+    go : (t : Bool) → produces (W y h-max) ≡ t → produces v ≡ t
+    go true q = let a = s ∙ q in let b = n .1 in omega ints
+    go false q = let b = n .0 in omega ints
+new-sign W y h-max v l s n = go (produces (W y h-max)) refl
+  where
+    go : (t : Bool) → produces (W y h-max) ≡ t → produces v ≡ t
+    go true q = let a = s ∙ q in let b = n .0 in omega ints
+    go false q = let b = n .1 in omega ints
+
+module _ {n : ℕ} (b : List ℤ) (k : End) (y : ℕ) (w : Whole b) (few : n ≤ 64) (m : y < n) (signed : (z : ℕ) → z < n → produces (board b z h-min) ≡ produces (board b z h-max)) where
+  -- Both amounts of an event are deliveries' as before.
+  old-sign : (z : ℕ) → z < n → (l : End) → 2 ≤ word l → produces (board b z l) ≡ produces (board b z h-max)
+  old-sign z h t-min i = absurd (omega arith)
+  old-sign z h t-max i = absurd (omega arith)
+  old-sign z h h-min i = signed z h
+  old-sign z h h-max i = refl
+
+  stored-sign : (x : Effect) → ((v : ℤ) → x ≡ narrows v → Narrower (board b) y k v) → (z : ℕ) → z < n → (l : End) → 2 ≤ word l → produces (board (stored k y x b) z l) ≡ produces (board b z h-max)
+  stored-sign idle f z h l i = old-sign z h l i
+  stored-sign fails f z h l i = old-sign z h l i
+  stored-sign (narrows v) f z h l i = go (ℕ-discrete y z) (ℕ-discrete (word k) (word l))
+    where
+      go : Dec (y ≡ z) → Dec (word k ≡ word l) → produces (board (set b (64 * word k + y) v) z l) ≡ produces (board b z h-max)
+      go (yes e) (yes q) =
+          let at = board-set-same b w v y l (omega arith) in
+          rw (q, ← e, at) (new-sign (board b) y k v (omega arith) (signed y m) (f v refl))
+      go (yes e) (no q) = rw (← e, board-set-end b w v y k l (omega arith) q) (old-sign y m l i)
+      go (no d) q = rw (board-set-event b w v y z k l (omega arith) (omega arith) d) (old-sign z h l i)
+
 -- ---- the slip written, and the call stopped
 
 -- Whether a slip of 7 + 3m words fits.
@@ -136,7 +172,7 @@ room-yes room log slip used m p q h = le-leb (length log + length slip + 3) room
 grown-stop : {n : ℕ} {b buffer : List ℤ} {p : Progress} → Held n b buffer p → Grown n buffer p b buffer (stopped-at p)
 grown-stop h =
     record {
-      held = record { whole = h .whole; ranged = h .ranged; small = h .small; trailer-fits = h .trailer-fits; counted = h .counted; placed = h .placed };
+      held = record { whole = h .whole; ranged = h .ranged; signed = h .signed; small = h .small; trailer-fits = h .trailer-fits; counted = h .counted; placed = h .placed };
       same = refl;
       after = refl;
       longer = omega arith;
@@ -171,13 +207,16 @@ module _ {k : Job} {ws b buffer : List ℤ} {p : Progress} {r e y : ℕ} {x : Do
   slip-size = slip-words-length (slip-of (k .events) (board b) c r e y x)
 
   -- It is the definitions' slip, and what they make of it is known by whether it fits.
-  module _ (j : Call) (h : Holds k ws j) where
+  module _ (j : Call) (s : Serves k ws (board b) j) where
+    abbrev h : Holds k ws j
+    h = s .holds
+
     slip-is : slip-of (k .events) (board b) c r e y x ≡ explanation r j (windows (table-of (k .events) b)) e y (effect-of x)
     slip-is =
         let n = k .events in
         let there : e < subjects (rule r) j = rw (← subjects-are h (rule r)) (tries .subject) in
         let same : Agree (events j) (board b) (windows (table-of n b)) = rw (h .events-are) (agree-sym n (windows (table-of n b)) (board b) (agree n b)) in
-        rw (same-premises j h cites) (explanation-agree j (board b) (windows (table-of n b)) same r e y (effect-of x) there)
+        rw (same-premises j s cites) (explanation-agree j (board b) (windows (table-of n b)) same r e y (effect-of x) there)
 
     act-is : acted (length buffer) r j e y (effect-of x) (state-of (k .events) b buffer p)
         ≡ recorded (length buffer) (state-of (k .events) b buffer p) (slip-of (k .events) (board b) c r e y x) (table-after (own-end (rule r)) y (effect-of x) (table-of (k .events) b)) (status-after (effect-of x))
@@ -191,7 +230,7 @@ module _ {k : Job} {ws b buffer : List ℤ} {p : Progress} {r e y : ℕ} {x : Do
     pub stop-made : {o : Progress} → length buffer < p .used + (10 + 3 * m) → o ≡ stopped-at p → Leads k ws (λ j. acted (length buffer) r j e y (effect-of x)) b buffer p b buffer o
     stop-made h f =
         let no = room-no (length buffer) (take (p .used) buffer) (slip-words (slip-of (k .events) (board b) c r e y x)) (p .used) m log-size long h in
-        rw f (record { is = λ j q. sym (act-is j q ∙ rw no); grown = grown-stop held })
+        rw f (record { is = λ j q. sym (act-is j q ∙ rw no); kinds = λ y l. refl; grown = grown-stop held })
 
     -- It fits: the slip is written and the new end stored.
     pub slip-made : {b′ buffer′ : List ℤ} {end : ℕ} {s : Status} → p .used + (10 + 3 * m) ≤ length buffer → Appended (p .used) (slip-words (slip-of (k .events) (board b) c r e y x)) buffer buffer′ end
@@ -199,13 +238,16 @@ module _ {k : Job} {ws b buffer : List ℤ} {p : Progress} {r e y : ℕ} {x : Do
         → Leads k ws (λ j. acted (length buffer) r j e y (effect-of x)) b buffer p b′ buffer′ (record { used = end; slips = p .slips + 1; last = p .used; status = s })
     slip-made h a g t =
         let yes = room-yes (length buffer) (take (p .used) buffer) (slip-words (slip-of (k .events) (board b) c r e y x)) (p .used) m log-size long h in
+        let signs = stored-sign b (own-end (rule r)) y (held .whole) (held .ranged .few) (tries .target) (held .signed) (effect-of x) (does .narrower) in
         let table = table-stored (k .events) b y (own-end (rule r)) (effect-of x) (held .whole) (tries .target) (held .ranged .few) in
         record {
           is = λ j q. with-slip-is (ap (table-of (k .events)) g ∙ table) (a .is) (sym log-size) t ∙ sym (act-is j q ∙ rw yes);
+          kinds = rw g (λ z l. signs z l h-max (omega arith));
           grown = record {
             held = record {
               whole = rw g (stored-whole (own-end (rule r)) y (effect-of x) b (held .whole));
               ranged = rw g (stored-ranged b (own-end (rule r)) y (effect-of x) (held .whole) (held .ranged) (tries .target) (does .range));
+              signed = rw g (λ z l. signs z l h-min (omega arith) ∙ sym (signs z l h-max (omega arith)));
               small = omega (arith, a .same, held .small);
               trailer-fits = omega (arith, long, a .place, a .same);
               counted = omega (arith, long, a .place, held .counted);
@@ -225,21 +267,22 @@ module _ {k : Job} {ws b buffer : List ℤ} {p : Progress} {r e y : ℕ} (held :
   pub attempt-off : {t : Bool} → t ≡ still (status-of (p .status)) → not t ≡ true → Made k ws (λ j. try r e y ∷ []) b buffer p b buffer p
   attempt-off {t} h f =
       let st = state-of (k .events) b buffer p in
-      record { is = λ j q. sym (attempt-tried (length buffer) r j e y st ∙ tried-off (status-of (p .status)) _ st (sym h ∙ not-true t f)); grown = grown-none held }
+      record { is = λ j q. sym (attempt-tried (length buffer) r j e y st ∙ tried-off (status-of (p .status)) _ st (sym h ∙ not-true t f)); kinds = λ y l. refl; grown = grown-none held }
 
   module _ {t : Bool} {x : Done} (h : t ≡ still (status-of (p .status))) (f : not t ≡ false) (does : Does k ws (board b) r e y x) where
-    attempt-on : (j : Call) → Holds k ws j → made (length buffer) j (try r e y ∷ []) (state-of (k .events) b buffer p) ≡ acted (length buffer) r j e y (effect-of x) (state-of (k .events) b buffer p)
+    attempt-on : (j : Call) → Serves k ws (board b) j → made (length buffer) j (try r e y ∷ []) (state-of (k .events) b buffer p) ≡ acted (length buffer) r j e y (effect-of x) (state-of (k .events) b buffer p)
     attempt-on j q =
         let n = k .events in
         let on = still-running (status-of (p .status)) (sym h ∙ not-false t f) in
-        let there : e < subjects (rule r) j = rw (← subjects-are q (rule r)) (tries .subject) in
-        let same = outcome-agree j (windows (table-of n b)) (board b) (rw (q .events-are) (agree n b)) (sane-of q (tries .fit)) (rule r) e y there (rw (q .events-are) (tries .target)) ∙ sym (does .is j q) in
+        let h = q .holds in
+        let there : e < subjects (rule r) j = rw (← subjects-are h (rule r)) (tries .subject) in
+        let same = outcome-agree j (windows (table-of n b)) (board b) (rw (h .events-are) (agree n b)) (sane-of h (tries .fit)) (rule r) e y there (rw (h .events-are) (tries .target)) ∙ sym (does .is j q) in
         attempt-tried (length buffer) r j e y (state-of n b buffer p) ∙ rw (on, same)
 
     -- It does nothing.
     pub attempt-idle : {i : Bool} → i ≡ is-idle (effect-of x) → i ≡ true → Made k ws (λ j. try r e y ∷ []) b buffer p b buffer p
-    attempt-idle u w = record { is = λ j q. sym (attempt-on j q ∙ acted-idle (length buffer) r j e y (effect-of x) (state-of (k .events) b buffer p) (sym u ∙ w)); grown = grown-none held }
+    attempt-idle u w = record { is = λ j q. sym (attempt-on j q ∙ acted-idle (length buffer) r j e y (effect-of x) (state-of (k .events) b buffer p) (sym u ∙ w)); kinds = λ y l. refl; grown = grown-none held }
 
     -- It is acted on.
     pub attempt-acts : {b′ buffer′ : List ℤ} {o : Progress} → Leads k ws (λ j. acted (length buffer) r j e y (effect-of x)) b buffer p b′ buffer′ o → Made k ws (λ j. try r e y ∷ []) b buffer p b′ buffer′ o
-    attempt-acts m = record { is = λ j q. m .is j q ∙ sym (attempt-on j q); grown = m .grown }
+    attempt-acts m = record { is = λ j q. m .is j q ∙ sym (attempt-on j q); kinds = m .kinds; grown = m .grown }

@@ -2,16 +2,16 @@
 use mathlib.Core.Path.{_≡_}
 use mathlib.Core.Bool.{Bool, true, false}
 use mathlib.Core.List.{List}
-use Prim.Native.Nat.{ℕ, _+_, _*_, _≤_}
+use Prim.Native.Nat.{ℕ, _+_, _*_, _≤_, _<_}
 use lib.IntN.{ℤ}
 use lib.ListN.{length, take, drop}
-use Rattle.model.specs.Job.{Job as Call}
+use Rattle.model.specs.Job.{h-min, h-max, produces, Job as Call}
 use Rattle.model.specs.Standing.{Ranged}
 use Rattle.model.specs.Agenda.{Attempt}
 use Rattle.model.specs.Rounds as model
 use Rattle.model.specs.Rounds.{State, running, ended, conflict, stopped, made}
 use Rattle.tables.specs.Board.{Whole, board, table-of}
-use Rattle.tables.specs.Job.{Holds}
+use Rattle.tables.specs.Job.{Kinds, Serves}
 use Rattle.tables.specs.declared.Job.{Job}
 use Rattle.rounds.specs.declared.Progress.{Progress}
 use Rattle.rounds.specs.declared.Status.{Status}
@@ -38,10 +38,11 @@ state-of n b buffer p =
       status = status-of (p .status);
     }
 
--- What holds of a call's board, buffer and counts between any two attempts: the ends are in range, and a trailer fits after the list.
+-- What holds of a call's board, buffer and counts between any two attempts: the ends are in range, an event's amounts are a delivery's at both ends or at none, and a trailer fits after the list.
 pub record Held (n : ℕ) (b buffer : List ℤ) (p : Progress) : Type 0 where
   pub whole : Whole b
   pub ranged : Ranged n (board b)
+  pub signed : (y : ℕ) → y < n → produces (board b y h-min) ≡ produces (board b y h-max)
   pub small : length buffer ≤ 1000000
   pub trailer-fits : p .used + 3 ≤ length buffer
   pub counted : 7 * p .slips ≤ p .used
@@ -55,9 +56,10 @@ pub record Grown (n : ℕ) (buffer : List ℤ) (p : Progress) (b′ buffer′ : 
   pub longer : p .used ≤ p′ .used
   pub more : p .slips ≤ p′ .slips
 
--- What was done to the state is f of every call that the job at hand is of.
+-- What was done to the state is f of every call that the job at hand is of; deliveries stay deliveries.
 pub record Leads (k : Job) (ws : List ℤ) (f : Call → State → State) (b buffer : List ℤ) (p : Progress) (b′ buffer′ : List ℤ) (p′ : Progress) : Type 0 where
-  pub is : (j : Call) → Holds k ws j → state-of (k .events) b′ buffer′ p′ ≡ f j (state-of (k .events) b buffer p)
+  pub is : (j : Call) → Serves k ws (board b) j → state-of (k .events) b′ buffer′ p′ ≡ f j (state-of (k .events) b buffer p)
+  pub kinds : Kinds (k .events) (board b′) (board b)
   pub grown : Grown (k .events) buffer p b′ buffer′ p′
 
 -- These attempts were made in turn; the room is the buffer's length.

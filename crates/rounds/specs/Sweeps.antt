@@ -32,7 +32,7 @@ pub record Three (r : ℕ) (m b : Bool) : Type 0 where
 
 -- The level of the view on a board leaves s over its limit.
 abbrev pub Leaves : View → List ℤ → ℤ → Type 0
-Leaves v b s = s ≡ slack-of (as-view v) (seen-by v (board b))
+Leaves v b s = s ≡ slack-of (as-view v (board b)) (seen-by v (board b))
 
 -- Rules r and r + 1 at e, both with target e.
 abbrev pub two-attempts : ℕ → ℕ → List Attempt

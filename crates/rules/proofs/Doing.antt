@@ -13,7 +13,7 @@ use Rattle.model.specs.Standing.{span, Ranged}
 use Rattle.model.specs.View.{side-end}
 use Rattle.model.specs.Rules.{Finding, nothing, clash, bound, Rule, reservoir, rule, family-end, own-end, Effect, narrows, effect}
 use Rattle.model.specs.Slips.{end}
-use Rattle.rules.specs.Values.{family-of, narrowing}
+use Rattle.rules.specs.Values.{family-of, narrowing, Narrower}
 
 -- ---- the end of a rule's bound
 
@@ -56,7 +56,7 @@ bound-does k W y v o p q r s t u = u ∙ rw (r, t, q, s, p)
 pub found-does : (k : ℕ) {e : End} (W : Windows) (y : ℕ) {v w : ℤ} {f : Finding} {x : Effect} → end k ≡ e → w ≡ v → f ≡ bound v → x ≡ effect (end k) W y (bound w) → x ≡ effect e W y f
 found-does k W y p q r s = s ∙ rw (p, q, r)
 
--- ---- a new end is in its range
+-- ---- a new end narrows the window, and is in its range
 
 between : (a b : Bool) (w v : ℤ) → narrowing a b w ≡ narrows v → (a ≡ true) × (b ≡ false) × (w ≡ v)
 between true true w v e = let z : _≡_ {A = ℕ} 0 1 = cc in absurd (omega arith)
@@ -84,6 +84,13 @@ bound-range {n} {W} h-max y w v r l e =
     let a = r .range y l h-min in
     let b = r .range y l h-max in
     omega ints
+
+pub new-narrower : (W : Windows) (k : End) (y : ℕ) (f : Finding) (v : ℤ) → effect k W y f ≡ narrows v → Narrower W y k v
+new-narrower W k y nothing v e = let z : _≡_ {A = ℕ} 0 1 = cc in absurd (omega arith)
+new-narrower W k y clash v e = let z : _≡_ {A = ℕ} 0 1 = cc in absurd (omega arith)
+new-narrower W k y (bound w) v e =
+    let p = between (meets (opposite k) (W y (opposite k)) w) (meets k w (W y k)) w v e in
+    (rw (p .2) at (p .0), rw (p .2) at (p .1))
 
 pub new-range : {n : ℕ} {W : Windows} (k : End) (y : ℕ) (f : Finding) (v : ℤ) → Ranged n W → y < n → effect k W y f ≡ narrows v → Within v (span k)
 new-range k y nothing v r l e = let z : _≡_ {A = ℕ} 0 1 = cc in absurd (omega arith)

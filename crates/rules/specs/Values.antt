@@ -7,7 +7,7 @@ use lib.IntN.{ℤ, natAbs}
 use lib.ListN.{length}
 use lib.Signed.{_<ℤ_}
 use Rattle.integers.specs.Range.{Within}
-use Rattle.model.specs.Job.{t-min, t-max, Windows, lag-word, Job as Call}
+use Rattle.model.specs.Job.{End, t-min, t-max, opposite, meets, Windows, lag-word, Job as Call}
 use Rattle.model.specs.Standing.{SaneLag, span, Ranged}
 use Rattle.model.specs.View.{View}
 use Rattle.model.specs.Levels.{e-min, most-in}
@@ -95,7 +95,12 @@ pub record Tries (k : Job) (ws : List ℤ) (W : Windows) (r e y : ℕ) : Type 0 
   pub subject : e < subjects-of (rule r) k ws
   pub target : y < k .events
 
--- x is what rule r for a subject e and a target y does to y's window; a new end is in its range.
+-- The bound v at y's end k is stricter than it, and keeps the opposite end.
+abbrev pub Narrower : Windows → ℕ → End → ℤ → Type 0
+Narrower W y k v = (meets (opposite k) (W y (opposite k)) v ≡ true) × (meets k v (W y k) ≡ false)
+
+-- x is what rule r for a subject e and a target y does to y's window; a new end narrows it, and is in its range.
 pub record Does (k : Job) (ws : List ℤ) (W : Windows) (r e y : ℕ) (x : Done) : Type 0 where
   pub is : (j : Call) → Serves k ws W j → effect-of x ≡ effect (own-end (rule r)) W y (finding (rule r) j W e y)
+  pub narrower : (v : ℤ) → effect-of x ≡ narrows v → Narrower W y (own-end (rule r)) v
   pub range : (v : ℤ) → effect-of x ≡ narrows v → Within v (span (own-end (rule r)))

@@ -1,15 +1,21 @@
 -- The ranges of the code's job are those of the call's; which windows serve it.
 -- Assumes nothing.
-use mathlib.Core.Path.{_≡_, sym, subst, _∙_}
+use mathlib.Core.Path.{_≡_, sym, ap, subst, _∙_}
+use mathlib.Core.Bool.{Bool, true, false, cond}
 use mathlib.Core.List.{List}
 use Prim.Native.Nat.{ℕ, _/_, _<_}
-use lib.IntN.{ℤ}
+use lib.Dec.{T}
+use lib.IntN.{ℤ, pos, negsuc}
 use lib.ListN.{length}
+use lib.Signed.{leZ, _≤ℤ_}
+use Rattle.integers.proofs.Linear.{ints}
 use Rattle.model.specs.Job as model
-use Rattle.model.specs.Job.{Windows}
+use Rattle.model.specs.Job.{h-min, h-max, Windows, windows, produces, consumes, events, sent}
 use Rattle.model.specs.Standing.{Sane, Standing}
 use Rattle.model.proofs.Levels.{kind-kept}
+use Rattle.tables.specs.Board.{board, Loaded}
 use Rattle.tables.specs.Job.{Holds, Kinds, Serves, Fit}
+use Rattle.tables.proofs.Board.{windows-board}
 use Rattle.tables.specs.declared.Job.{Job}
 
 module _ {k : Job} {ws : List ℤ} {j : model.Job} (h : Holds k ws j) where
@@ -37,7 +43,28 @@ module _ {k : Job} {ws : List ℤ} {j : model.Job} (h : Holds k ws j) where
   pub serves-standing : {W : Windows} → Standing j W → Serves k ws W j
   serves-standing {W} s = record { holds = h; kinds = kind-kept j W (s .within) (s .heights) }
 
--- So do windows with the same deliveries.
+  -- So does the board that its window table was brought onto.
+  pub serves-loaded : {b : List ℤ} → Loaded (k .events) (j .window-table) b → Serves k ws (board b) j
+  serves-loaded {b} l =
+      record {
+        holds = h;
+        kinds = λ y m. ap produces (sym (windows-board (k .events) b y h-max (rw (h .events-are) at m)) ∙ ap (λ (t : List ℤ). windows t y h-max) (l .is));
+      }
+
+-- Amounts of windows that stand are a delivery's at both ends or at none.
+pub standing-signed : {j : model.Job} {W : Windows} → Standing j W → (y : ℕ) → y < events j → produces (W y h-min) ≡ produces (W y h-max)
+standing-signed {j} {W} s y l =
+    go (produces (sent j y h-max)) (consumes (sent j y h-max)) (s .within .inside y l h-min) (s .within .inside y l h-max) (s .heights y l)
+  where
+    both : (a b : ℤ) (t : Bool) → produces a ≡ t → produces b ≡ t → produces a ≡ produces b
+    both a b t p q = p ∙ sym q
+
+    go : (p c : Bool) → T (leZ (cond p (pos 1) (cond c (negsuc 9998) (pos 0))) (W y h-min)) → T (leZ (W y h-max) (cond p (pos 9999) (cond c (negsuc 0) (pos 0)))) → W y h-min ≤ℤ W y h-max → produces (W y h-min) ≡ produces (W y h-max)
+    go true c a b h = both (W y h-min) (W y h-max) true (omega ints) (omega ints)
+    go false true a b h = both (W y h-min) (W y h-max) false (omega ints) (omega ints)
+    go false false a b h = both (W y h-min) (W y h-max) false (omega ints) (omega ints)
+
+-- Windows with the same deliveries serve a call alike.
 pub serves-alike : {k : Job} {ws : List ℤ} {W X : Windows} {j : model.Job} → Serves k ws W j → Kinds (k .events) X W → Serves k ws X j
 serves-alike s a =
     record { holds = s .holds; kinds = λ y l. a y (rw (s .holds .events-are) at l) ∙ s .kinds y l }

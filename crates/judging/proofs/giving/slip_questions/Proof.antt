@@ -7,9 +7,10 @@ use Rattle.model.specs.Reader.{slip-questions}
 use Rattle.model.proofs.Sound.{named}
 use Rattle.tables.specs.Board.{table-of}
 use Rattle.tables.proofs.Board.{length-table}
+use Rattle.tables.proofs.Holding.{serves-alike}
 use Rattle.slips.specs.Slip.{explanation-of}
 use Rattle.judging.specs.Ready.{call-of}
-use Rattle.judging.proofs.Passing.{holds-of, narrowed-range, attempts, facts-fit, header-signs}
+use Rattle.judging.proofs.Passing.{holds-of, narrowed-range, narrowed-kinds, attempts, facts-fit, header-signs}
 use borrow.Author.Needs.{needs}
 use Rattle.judging.proofs.giving.slip_questions.Statement.{statement}
 use Rattle.judging.proofs.giving.slip_questions.Tie as tie
@@ -19,7 +20,7 @@ names-requires c κs = search needs
 
 returns : tie.Need-returns
 unfolding slip-questions
-returns c = λ j h. rw (sym (c .before .names .ensures j h) ∙ not-true _ (c .if1 .taken))
+returns c = λ j h. rw (sym (c .before .names .ensures j (h .holds)) ∙ not-true _ (c .if1 .taken))
 
 facts-true-requires : tie.Need-facts-true-requires
 facts-true-requires c κs =
@@ -32,7 +33,7 @@ facts-true-requires c κs =
 
 returns-2 : tie.Need-returns-2
 unfolding slip-questions
-returns-2 c = λ j h. rw (sym (c .before .before .before .names .ensures j h) ∙ not-false _ (c .before .before .if1 .left), sym (c .before .facts-true .ensures) ∙ not-true _ (c .if2 .taken))
+returns-2 c = λ j h. rw (sym (c .before .before .before .names .ensures j (h .holds)) ∙ not-false _ (c .before .before .if1 .left), sym (c .before .facts-true .ensures) ∙ not-true _ (c .if2 .taken))
 
 index-requires : tie.Need-index-requires
 index-requires c κs =
@@ -65,7 +66,17 @@ facts-give-requires c κs =
 
 returns-3 : tie.Need-returns-3
 unfolding slip-questions
-returns-3 c = λ j h. rw (sym (c .before .before .before .before .before .before .before .names .ensures j h) ∙ not-false _ (c .before .before .before .before .before .before .if1 .left), sym (c .before .before .before .before .before .facts-true .ensures) ∙ not-false _ (c .before .before .before .before .if2 .left), sym (c .before .facts-give .ensures j h (true-is (sym (c .before .before .before .before .before .before .before .names .ensures j h) ∙ not-false _ (c .before .before .before .before .before .before .if1 .left)))) ∙ not-true _ (c .if3 .taken))
+returns-3 c =
+    let s = c .before .before .before .before .before .before .before .before in
+    let a = s .args in
+    let p = s .pre .0 in
+    let x = explanation-of (a .list .now) (a .s) in
+    let named = c .before .before .before .before .before .before .before .names .ensures in
+    let facts = sym (c .before .before .before .before .before .facts-true .ensures) ∙ not-false _ (c .before .before .before .before .if2 .left) in
+    let kinds = narrowed-kinds (x .premises) (p .inside) (p .kinds) (true-is facts) in
+    λ j h.
+    let there = sym (named j (h .holds)) ∙ not-false _ (c .before .before .before .before .before .before .if1 .left) in
+    rw (there, facts, sym (c .before .facts-give .ensures j (serves-alike h kinds) (true-is there)) ∙ not-true _ (c .if3 .taken))
 
 does-right-requires : tie.Need-does-right-requires
 does-right-requires c κs =
@@ -82,9 +93,16 @@ does-right-requires c κs =
 returns-4 : tie.Need-returns-4
 unfolding slip-questions
 returns-4 c =
-    let a = c .before .before .before .before .before .before .before .before .before .args in
+    let s = c .before .before .before .before .before .before .before .before .before in
+    let a = s .args in
+    let p = s .pre .0 in
     let x = explanation-of (a .list .now) (a .s) in
-    λ j h. rw (sym (c .before .before .before .before .before .before .before .before .names .ensures j h) ∙ not-false _ (c .before .before .before .before .before .before .before .if1 .left), sym (c .before .before .before .before .before .before .facts-true .ensures) ∙ not-false _ (c .before .before .before .before .before .if2 .left), sym (c .before .before .facts-give .ensures j h (true-is (sym (c .before .before .before .before .before .before .before .before .names .ensures j h) ∙ not-false _ (c .before .before .before .before .before .before .before .if1 .left)))) ∙ not-false _ (c .before .if3 .left)) (c .does-right .ensures (x .premises))
+    let named = c .before .before .before .before .before .before .before .before .names .ensures in
+    let facts = sym (c .before .before .before .before .before .before .facts-true .ensures) ∙ not-false _ (c .before .before .before .before .before .if2 .left) in
+    let kinds = narrowed-kinds (x .premises) (p .inside) (p .kinds) (true-is facts) in
+    λ j h.
+    let there = sym (named j (h .holds)) ∙ not-false _ (c .before .before .before .before .before .before .before .if1 .left) in
+    rw (there, facts, sym (c .before .before .facts-give .ensures j (serves-alike h kinds) (true-is there)) ∙ not-false _ (c .before .if3 .left)) (c .does-right .ensures (x .premises))
 
 pub slip-questions-spec : {M : Type 1} → statement M
 slip-questions-spec =

@@ -1,5 +1,6 @@
 -- `rounds::sweeps::three_rules` makes three rules in a row at an event, in one view. Assumes nothing.
-use Rattle.rounds.proofs.Moves.{subject-is, sees-level, sees-time, sees-height, three-made}
+use Rattle.levels.proofs.Viewing.{subject-is}
+use Rattle.rounds.proofs.Moves.{sees-level, sees-time, sees-height, three-made}
 use borrow.Author.Needs.{needs}
 use Rattle.rounds.proofs.sweeps.three_rules.Statement.{statement}
 use Rattle.rounds.proofs.sweeps.three_rules.Tie as tie

@@ -3,7 +3,7 @@ use mathlib.Core.Path.{sym, ap, _∙_}
 use Rattle.tables.specs.Board.{board}
 use Rattle.model.specs.Rules.{rule, own-end, effect}
 use Rattle.rules.specs.Values.{finding-of}
-use Rattle.rules.proofs.Doing.{new-range}
+use Rattle.rules.proofs.Doing.{new-narrower, new-range}
 use borrow.Author.Needs.{needs}
 use Rattle.rules.proofs.effects.effect.Statement.{statement}
 use Rattle.rules.proofs.effects.effect.Tie as tie
@@ -23,6 +23,7 @@ returns c =
     let d = c .finding-effect .ensures in
     record {
       is = λ j h. d ∙ ap (effect k W (a .y)) (c .before .finding .ensures j h);
+      narrower = λ v e. new-narrower W k (a .y) (finding-of (c .before .finding .result)) v (sym d ∙ e);
       range = λ v e. new-range k (a .y) (finding-of (c .before .finding .result)) v (s .pre .windows) (s .pre .target) (sym d ∙ e);
     }
 
