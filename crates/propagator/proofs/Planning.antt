@@ -7,21 +7,18 @@ use native.Mathlib.Omega.{arith}
 use lib.IntN.{ℤ}
 use lib.ListN.{length, take, drop, take-append-drop}
 use lib.Seq.{length-take-le}
-use Rattle.integers.proofs.Linear.{ints}
-use Rattle.integers.proofs.Tests.{same-test}
-use Rattle.model.specs.Job.{h-min, h-max, Windows, windows, produces, events, sent, job, Job as Call}
-use Rattle.model.specs.Standing.{Ranged, Standing}
+use Rattle.model.specs.Job.{h-min, h-max, windows, events, sent, job, Job as Call}
+use Rattle.model.specs.Standing.{Ranged}
 use Rattle.model.specs.Slips.{trailer}
 use Rattle.model.specs.Rounds.{run, start}
 use Rattle.model.specs.Questions.{pass, questions}
 use Rattle.model.specs.Planner.{done, planned, plan}
-use Rattle.model.proofs.Levels.{signed-within}
 use Rattle.model.proofs.Questions.{asked}
 use Rattle.model.proofs.Ranges.{end-range}
-use Rattle.tables.specs.Board.{board, table-of, Loaded}
-use Rattle.tables.specs.Job.{Holds, Serves, Fit}
+use Rattle.tables.specs.Board.{table-of, Loaded}
+use Rattle.tables.specs.Job.{Holds, Fit}
 use Rattle.tables.specs.declared.Job.{Job}
-use Rattle.tables.proofs.Holding.{fit-of, serves-alike}
+use Rattle.tables.proofs.Holding.{fit-of, serves-loaded, standing-signed}
 use Rattle.questions.specs.Asked.{check-of}
 use Rattle.questions.specs.declared.Check.{Check}
 use Rattle.questions.specs.declared.Check.the-variants.{Pass, Refuse}
@@ -57,12 +54,8 @@ module _ {k : Job} {ws table b buffer b′ buffer′ : List ℤ} {e : Ended} (l 
   log-length : length (take (e .progress .used) buffer′) ≡ e .progress .used
   log-length = length-take-le (e .progress .used) buffer′ (omega (arith, r .grown .held .trailer-fits))
 
-  -- The board shows what the table does.
-  served : {j : Call} → Serves k ws (windows table) j → Serves k ws (board b) j
-  served h = serves-alike h (λ y i. ap produces (sym (windows-board (k .events) b y h-max i) ∙ ap (λ (t : List ℤ). windows t y h-max) (l .is)))
-
-  run-is : (j : Call) → Serves k ws (windows table) j → run-of (k .events) b′ buffer′ e ≡ run (length buffer) j (length buffer) 0 (start table)
-  run-is j h = r .is j (served h) ∙ rw (l .is)
+  run-is : (j : Call) → Holds k ws j → j .window-table ≡ table → run-of (k .events) b′ buffer′ e ≡ run (length buffer) j (length buffer) 0 (start table)
+  run-is j h e = r .is j (serves-loaded h (rw e l)) ∙ rw (l .is)
 
   -- With the trailer the list ends as it must, and words after it are the caller's.
   module _ {buffer″ : List ℤ} {end : ℕ} (t : Appended (e .progress .used) (trailer (e .progress .slips) (e .progress .last)) buffer′ buffer″ end) where
@@ -75,9 +68,9 @@ module _ {k : Job} {ws table b buffer b′ buffer′ : List ℤ} {e : Ended} (l 
         sym (take-append-drop end buffer″) ∙ rw (t .is, kept, log-length) (append-assoc (take used buffer′) words (drop (used + 3) buffer))
 
     pub outcome : {table″ : List ℤ} {a : Answer} → table″ ≡ table-of (k .events) b′ → reply-of a ≡ done (verdict-of (e .verdict)) (e .progress .slips) (e .rounds) end
-        → (j : Call) → Serves k ws (windows table) j → Outcomes (planned (run (length buffer) j (length buffer) 0 (start table)) buffer) table″ buffer″ a
-    outcome q s j h =
-        rw (← run-is j h)
+        → (j : Call) → Holds k ws j → j .window-table ≡ table → Outcomes (planned (run (length buffer) j (length buffer) 0 (start table)) buffer) table″ buffer″ a
+    outcome q s j h e =
+        rw (← run-is j h e)
         (record {
           answer = rw (log-length, ← t .place) s;
           windows = q;
@@ -86,19 +79,9 @@ module _ {k : Job} {ws table b buffer b′ buffer′ : List ℤ} {e : Ended} (l 
 
 -- ---- the planner
 
--- Standing windows hold no two signs.
-one-kind : (j : Call) → {W : Windows} → Standing j W → OneKind (events j) W
-one-kind j {W} s y l =
-    let signs = signed-within (s .within) in
-    same-test (produces (W y h-min)) (produces (W y h-max)) (λ t. omega (ints, s .heights y l)) (λ t. signs .producers y l t .lt)
-
 -- The job at hand is of the call with these numbers.
 pub of-call : {k : Job} {h h′ low low′ high high′ q q′ cover cover′ : ℤ} {table ws : List ℤ} → h′ ≡ h → low′ ≡ low → high′ ≡ high → q′ ≡ q → cover′ ≡ cover → Holds k ws (job h′ low′ high′ q′ cover′ table ws) → Holds k ws (job h low high q cover table ws)
 of-call a b c d e x = rw (a, b, c, d, e) at x
-
--- The windows sent in serve the call.
-pub serves-own : {k : Job} {ws : List ℤ} {j : Call} → Holds k ws j → Serves k ws (sent j) j
-serves-own h = record { holds = h; kinds = λ y l. refl }
 
 -- A call, the job at hand that is of it, and what its questions came to.
 module _ (j : Call) (buffer : List ℤ) {k : Job} {x : Check} (h : Holds k (j .lag-table) j) (e : check-of x ≡ questions j (length buffer)) where
@@ -116,7 +99,7 @@ module _ (j : Call) (buffer : List ℤ) {k : Job} {x : Check} (h : Holds k (j .l
     plan-asks =
         let a = asked j (length buffer) passes in
         let ranged : Ranged (events j) (sent j) = record { few = a .sane .few-events; range = end-range (a .sane) (a .standing) } in
-        (fit-of h (a .sane), a .whole-events ∙ rw (h .events-are), rw (h .events-are) at ranged, rw (h .events-are) at (one-kind j (a .standing)), a .room-low, a .room-high)
+        (fit-of h (a .sane), a .whole-events ∙ rw (h .events-are), rw (h .events-are) at ranged, rw (h .events-are) at (standing-signed (a .standing)), a .room-low, a .room-high)
 
     pub plan-passed : {table′ buffer′ : List ℤ} {a : Answer} → Outcomes (planned (run (length buffer) j (length buffer) 0 (start (j .window-table))) buffer) table′ buffer′ a
         → Outcomes (plan j buffer) table′ buffer′ a

@@ -19,7 +19,7 @@ ghost use Rattle.model.specs.Job.{windows, job, Job as Call};
 ghost use Rattle.model.specs.Standing.{Ranged};
 ghost use Rattle.model.specs.Rounds.{run, start};
 ghost use Rattle.model.specs.Planner.{done, planned, plan};
-ghost use Rattle.tables.specs.Job.{Serves, Fit};
+ghost use Rattle.tables.specs.Job.{Holds, Fit};
 ghost use Rattle.propagator.specs.Runs.{verdict-of};
 ghost use Rattle.propagator.specs.Plans.{reply-of, OneKind, Outcomes};
 ghost use Rattle.propagator.specs.declared.Answer.the-variants.{Refused};
@@ -55,7 +55,8 @@ pub fn planned(k: Job, table: &mut [i32], lags: &[i32], buffer: &mut [i32]) -> A
     ensures { λ r. ⌜
         (
         (j : Call) →
-        Serves k (now (lags .entry)) (windows (now (table .entry))) j →
+        Holds k (now (lags .entry)) j →
+        j .window-table ≡ now (table .entry) →
         Outcomes
         (planned (run (length (now (buffer .entry))) j (length (now (buffer .entry))) 0 (start (now (table .entry)))) (now (buffer .entry)))
         (now (table .exit)) (now (buffer .exit)) r

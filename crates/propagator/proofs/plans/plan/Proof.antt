@@ -2,7 +2,7 @@
 use mathlib.Core.Path.{refl}
 use mir.Facts.{toZ-ofZ}
 use Rattle.model.specs.Job.{job}
-use Rattle.propagator.proofs.Planning.{of-call, serves-own, plan-refused, plan-asks, plan-passed}
+use Rattle.propagator.proofs.Planning.{of-call, plan-refused, plan-asks, plan-passed}
 use borrow.Author.Needs.{needs}
 use Rattle.propagator.proofs.plans.plan.Statement.{statement}
 use Rattle.propagator.proofs.plans.plan.Tie as tie
@@ -54,7 +54,7 @@ returns-2 c =
     let a = s .args in
     let j = job (a .h) (a .low) (a .high) (a .q) (a .cover) (a .table .now) (a .lags .now) in
     let h = of-call (toZ-ofZ (s .fits .h)) (toZ-ofZ (s .fits .low)) (toZ-ofZ (s .fits .high)) (toZ-ofZ (s .fits .q)) (toZ-ofZ (s .fits .cover)) (c .before .before .before .before .before .before .before .before .before .job-of .ensures (a .table .now) (a .lags .now) refl) in
-    let o = plan-passed j (a .buffer .now) h (c .before .before .before .before .before .before .before .questions .ensures j h refl) (c .before .before .before .before .before .enum-told .given .1) (c .before .before .planned .ensures j (serves-own h)) in
+    let o = plan-passed j (a .buffer .now) h (c .before .before .before .before .before .before .before .questions .ensures j h refl) (c .before .before .before .before .before .enum-told .given .1) (c .before .before .planned .ensures j h refl) in
     (o .answer, (o .windows, o .slips))
 
 pub plan-spec : {M : Type 1} → statement M
