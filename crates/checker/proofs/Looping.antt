@@ -19,10 +19,10 @@ use Rattle.model.proofs.Agree.{Agree, slip-questions-agree}
 use Rattle.model.proofs.Ranges.{end-range}
 use Rattle.model.proofs.Accepted.{passed, passed-standing}
 use Rattle.tables.specs.Board.{board, table-of, Whole as Full}
-use Rattle.tables.specs.Job.{Holds}
+use Rattle.tables.specs.Job.{Holds, Serves}
 use Rattle.tables.specs.declared.Job.{Job}
 use Rattle.tables.proofs.Board.{windows-board, length-table}
-use Rattle.tables.proofs.Holding.{fit-of}
+use Rattle.tables.proofs.Holding.{fit-of, serves-standing, serves-alike}
 use Rattle.judging.specs.Ready.{Ready}
 use Rattle.judging.specs.Wide.{opened}
 use Rattle.judging.proofs.Passing.{holds-of}
@@ -66,7 +66,7 @@ module _ (k : Job) (ws wide b₀ list : List ℤ) (stop count : ℕ) (call : Cal
   abbrev j : Call
   j = board-call k ws b₀
 
-  pub holds : Holds k ws j
+  holds : Holds k ws j
   holds = holds-of ws (length-table n b₀)
 
   on-board : (b : List ℤ) → Agree n (board b) (windows (table-of n b))
@@ -78,6 +78,10 @@ module _ (k : Job) (ws wide b₀ list : List ℤ) (stop count : ℕ) (call : Cal
   -- The job's events are those on the board.
   there : {y : ℕ} → y < n → y < events j
   there l = rw (holds .events-are) l
+
+  -- Windows that stand show the deliveries sent in.
+  kept : {W : Windows} → Standing j W → (y : ℕ) → y < n → produces (W y h-max) ≡ produces (sent j y h-max)
+  kept s y l = serves-standing holds s .kinds y (there l)
 
   pub begins : At n j list stop count b₀ 0 0 0 false
   begins =
@@ -95,7 +99,11 @@ module _ (k : Job) (ws wide b₀ list : List ℤ) (stop count : ℕ) (call : Cal
           wide-range = record { few = f .few-events; range = λ y l e. rw (opened-wide y l e) (end-range s (widest-stands s) y (there l) e) };
           range = record { few = f .few-events; range = λ y l e. rw (on-board b y l e) (end-range s (here .standing) y (there l) e) };
           inside = record { inside = λ y l e. rw (opened-wide y l e, on-board b y l e) (here .standing .within .inside y (there l) e) };
+          kinds = λ y l. ap produces (opened-wide y l h-max) ∙ kept (widest-stands s) y l ∙ sym (ap produces (on-board b y l h-max) ∙ kept (here .standing) y l);
         }
+
+    pub serves : Serves k ws (board b) j
+    serves = serves-alike (serves-standing holds (here .standing)) (λ y l. ap produces (on-board b y l h-max))
 
     same-asked : (left : ℕ) → slip-asked j (board wide) (board b) list stop p left ≡ slip-asked j (widest j) (windows (table-of n b)) list stop p left
     same-asked left =

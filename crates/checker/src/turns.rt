@@ -20,7 +20,7 @@ ghost use Rattle.model.specs.Job.{widest, Job as Call};
 ghost use Rattle.model.specs.Slips.{Premise};
 ghost use Rattle.model.specs.Reader.{is-conflict, applied, read-from};
 ghost use Rattle.tables.specs.Board.{board, table-of, Whole};
-ghost use Rattle.tables.specs.Job.{Holds};
+ghost use Rattle.tables.specs.Job.{Serves};
 ghost use Rattle.slips.specs.Slip.{headed};
 ghost use Rattle.judging.specs.Ready.{Ready};
 ghost use Rattle.checker.specs.Turns.{Applies, Stepped, board-call, Called, Ends};
@@ -56,7 +56,7 @@ fn take_slip(
     requires { do ⌜ (Ready k (now lags) (now wide) (now b)) × (Whole (now b)) × (p ≤ stop) × (stop ≤ (← ⟦list.len()⟧)) ⌝ }
     ensures { λ r. ⌜ (
         (j : Call) →
-        Holds k (now (lags .entry)) j →
+        Serves k (now (lags .entry)) (board (now (b .entry))) j →
         Stepped (k .events) j (board (now (wide .entry))) (now (list .entry)) stop p left (now (b .entry)) (now (b .exit)) r
         ) ⌝ }
 {

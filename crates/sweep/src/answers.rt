@@ -77,12 +77,26 @@ fn call(
 {
     if kind == 1 {
         let answer = propagator::plans::plan(
-            head[0], head[1], head[2], head[3], head[4], table, lags, list,
+            head[0],
+            head[1],
+            head[2],
+            head[3],
+            head[4],
+            table,
+            lags,
+            list,
         );
         return planned(out, at, answer);
     }
     let judgement = checker::check(
-        head[0], head[1], head[2], head[3], head[4], table, lags, list,
+        head[0],
+        head[1],
+        head[2],
+        head[3],
+        head[4],
+        table,
+        lags,
+        list,
     );
     judged(out, at, judgement)
 }

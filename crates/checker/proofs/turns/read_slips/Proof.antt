@@ -4,7 +4,7 @@ use native.Mathlib.Omega.{arith}
 use borrow.Author.Needs.{needs}
 use Rattle.tables.specs.Board.{board}
 use Rattle.checker.specs.Turns.{board-call}
-use Rattle.checker.proofs.Looping.{At, holds, begins, ready, refuses, goes-on, finishes, stepped-as}
+use Rattle.checker.proofs.Looping.{At, serves, begins, ready, refuses, goes-on, finishes, stepped-as}
 use Rattle.checker.proofs.turns.read_slips.Statement.{statement}
 use Rattle.checker.proofs.turns.read_slips.Tie as tie
 
@@ -36,9 +36,14 @@ enum-known-step c = search needs
 
 returns : tie.Need-returns Inv-loop μ-loop
 returns c =
-    let a = c .before .before .before .before .before .before .before .args in
-    refuses (a .k) (a .lags .now) (a .wide .now) (a .b .now) (a .list .now) (a .stop) (a .count) (c .before .before .before .before .before .before .before .pre .0) (c .before .before .before .before .before .before .loop .b) (c .before .before .before .before .before .before .loop .i) (c .before .before .before .before .before .before .loop .p) (c .before .before .before .before .before .before .loop .last) (c .before .before .before .before .before .before .loop .conflict) (c .before .before .before .before .before .before .loop .inv) (c .before .before .before .take-slip .last .0) (c .before .step .given .0 .0) (omega arith)
-    (stepped-as (a .k .events) (board-call (a .k) (a .lags .now) (a .b .now)) (board (a .wide .now)) (a .list .now) (a .stop) (c .before .before .before .before .before .before .loop .p) (a .count - c .before .before .before .before .before .before .loop .i - 1) (c .before .before .before .before .before .before .loop .b) (c .before .before .before .take-slip .last .0) (c .before .step .given .1) (c .before .before .before .take-slip .ensures (board-call (a .k) (a .lags .now) (a .b .now)) (holds (a .k) (a .lags .now) (a .wide .now) (a .b .now) (a .list .now) (a .stop) (a .count) (c .before .before .before .before .before .before .before .pre .0))))
+    let l = c .before .before .before .before .before .before .loop in
+    let s = c .before .before .before .before .before .before .before in
+    let a = s .args in
+    let t = c .before .before .before .take-slip in
+    let j = board-call (a .k) (a .lags .now) (a .b .now) in
+    refuses (a .k) (a .lags .now) (a .wide .now) (a .b .now) (a .list .now) (a .stop) (a .count) (s .pre .0) (l .b) (l .i) (l .p) (l .last) (l .conflict) (l .inv) (t .last .0) (c .before .step .given .0 .0) (omega arith)
+    (stepped-as (a .k .events) j (board (a .wide .now)) (a .list .now) (a .stop) (l .p) (a .count - l .i - 1) (l .b) (t .last .0) (c .before .step .given .1)
+    (t .ensures j (serves (a .k) (a .lags .now) (a .wide .now) (a .b .now) (a .list .now) (a .stop) (a .count) (s .pre .0) (l .b) (l .i) (l .p) (l .last) (l .conflict) (l .inv))))
 
 enum-known-step-2 : tie.Need-enum-known-step-2 Inv-loop μ-loop
 enum-known-step-2 c = search needs
@@ -51,9 +56,14 @@ loop-less c = omega arith
 
 loop-again : tie.Need-loop-again Inv-loop μ-loop
 loop-again c =
-    let a = c .before .before .before .before .before .before .before .args in
-    goes-on (a .k) (a .lags .now) (a .wide .now) (a .b .now) (a .list .now) (a .stop) (a .count) (c .before .before .before .before .before .before .before .pre .0) (c .before .before .before .before .before .before .loop .b) (c .before .before .before .before .before .before .loop .i) (c .before .before .before .before .before .before .loop .p) (c .before .before .before .before .before .before .loop .last) (c .before .before .before .before .before .before .loop .conflict) (c .before .before .before .before .before .before .loop .inv) (c .before .before .before .take-slip .last .0) (c .before .step2 .given .0 .0) (c .before .step2 .given .0 .1 .0) (omega arith)
-    (stepped-as (a .k .events) (board-call (a .k) (a .lags .now) (a .b .now)) (board (a .wide .now)) (a .list .now) (a .stop) (c .before .before .before .before .before .before .loop .p) (a .count - c .before .before .before .before .before .before .loop .i - 1) (c .before .before .before .before .before .before .loop .b) (c .before .before .before .take-slip .last .0) (c .before .step2 .given .1) (c .before .before .before .take-slip .ensures (board-call (a .k) (a .lags .now) (a .b .now)) (holds (a .k) (a .lags .now) (a .wide .now) (a .b .now) (a .list .now) (a .stop) (a .count) (c .before .before .before .before .before .before .before .pre .0))))
+    let l = c .before .before .before .before .before .before .loop in
+    let s = c .before .before .before .before .before .before .before in
+    let a = s .args in
+    let t = c .before .before .before .take-slip in
+    let j = board-call (a .k) (a .lags .now) (a .b .now) in
+    goes-on (a .k) (a .lags .now) (a .wide .now) (a .b .now) (a .list .now) (a .stop) (a .count) (s .pre .0) (l .b) (l .i) (l .p) (l .last) (l .conflict) (l .inv) (t .last .0) (c .before .step2 .given .0 .0) (c .before .step2 .given .0 .1 .0) (omega arith)
+    (stepped-as (a .k .events) j (board (a .wide .now)) (a .list .now) (a .stop) (l .p) (a .count - l .i - 1) (l .b) (t .last .0) (c .before .step2 .given .1)
+    (t .ensures j (serves (a .k) (a .lags .now) (a .wide .now) (a .b .now) (a .list .now) (a .stop) (a .count) (s .pre .0) (l .b) (l .i) (l .p) (l .last) (l .conflict) (l .inv))))
 
 returns-2 : tie.Need-returns-2 Inv-loop μ-loop
 returns-2 c =

@@ -1,11 +1,10 @@
 -- `checker::turns::take_slip` reads the slip at p, asks it and makes its narrowing. Assumes nothing.
 use mathlib.Core.Path.{_∙_, ap}
 use Rattle.tables.specs.Board.{board, table-of}
-use Rattle.tables.proofs.Board.{length-table}
 use Rattle.model.specs.Reader.{is-conflict, applied}
 use Rattle.slips.specs.Slip.{explanation-of}
 use Rattle.judging.specs.Ready.{call-of}
-use Rattle.judging.proofs.Passing.{holds-of}
+use Rattle.judging.proofs.Passing.{serves-of}
 use Rattle.checker.proofs.Turning.{stop-cut, stop-no, goes-by, slip-there, placed-of, passes, applies-is}
 use borrow.Author.Needs.{needs}
 use Rattle.checker.proofs.turns.take_slip.Statement.{statement}
@@ -40,8 +39,8 @@ apply-requires c κs =
     let a = c .before .before .before .before .before .before .before .before .args in
     let k = a .k in
     let j = call-of k (a .lags .now) (table-of (k .events) (a .b .now)) in
-    let h = holds-of (a .lags .now) (length-table (k .events) (a .b .now)) in
-    (applies-is h (c .before .before .before .before .before .before .before .before .pre .0 .fit) (board (a .wide .now)) (board (a .b .now)) (a .list .now) (c .before .before .before .before .before .read .given .0 .0) (a .left) (placed-of (a .list .now) (a .stop) (c .before .before .before .before .before .before .before .read-slip .result) (c .before .before .before .before .before .read .given .0 .0) (c .before .before .before .before .before .read .given .0 .1 .0) (c .before .before .before .before .before .before .before .read-slip .ensures .1) (c .before .before .before .before .before .read .given .1) .0) (passes (c .before .if1 .left) (c .before .before .slip-questions .ensures j h)), c .before .before .before .before .before .before .before .before .pre .1)
+    let h = serves-of (a .lags .now) (a .b .now) in
+    (applies-is (h .holds) (c .before .before .before .before .before .before .before .before .pre .0 .fit) (board (a .wide .now)) (board (a .b .now)) (a .list .now) (c .before .before .before .before .before .read .given .0 .0) (a .left) (placed-of (a .list .now) (a .stop) (c .before .before .before .before .before .before .before .read-slip .result) (c .before .before .before .before .before .read .given .0 .0) (c .before .before .before .before .before .read .given .0 .1 .0) (c .before .before .before .before .before .before .before .read-slip .ensures .1) (c .before .before .before .before .before .read .given .1) .0) (passes (c .before .if1 .left) (c .before .before .slip-questions .ensures j h)), c .before .before .before .before .before .before .before .before .pre .1)
 
 returns-3 : tie.Need-returns-3
 returns-3 c =
