@@ -23,7 +23,7 @@ tell-requires c κs =
     let a = c .before .before .before .before .plan .ensures .0 in
     let same = job-same (toZ-ofZ (s .fits .h)) (toZ-ofZ (s .fits .low)) (toZ-ofZ (s .fits .high)) (toZ-ofZ (s .fits .q)) (toZ-ofZ (s .fits .cover)) (s .args .table .now) (s .args .lags .now) in
     rw (c .before .planned .ensures, a, same)
-    (plan-small (job (s .args .h) (s .args .low) (s .args .high) (s .args .q) (s .args .table .now) (s .args .lags .now)) (s .args .buffer .now))
+    (plan-small (job (s .args .h) (s .args .low) (s .args .high) (s .args .q) (s .args .cover) (s .args .table .now) (s .args .lags .now)) (s .args .buffer .now))
 
 same-length : tie.Need-same-length
 same-length c = search needs
@@ -41,7 +41,7 @@ returns c =
     let p = c .before .before .before .before .before .before .plan .ensures in
     let a = c .before .before .before .planned .ensures
     ∙ ap numbers-of (rw same at (p .0)) in
-    let small = plan-small (job (s .args .h) (s .args .low) (s .args .high) (s .args .q) (s .args .table .now) (s .args .lags .now)) (s .args .buffer .now) in (
+    let small = plan-small (job (s .args .h) (s .args .low) (s .args .high) (s .args .q) (s .args .cover) (s .args .table .now) (s .args .lags .now)) (s .args .buffer .now) in (
       returned _ (rw a at (c .before .tell .ensures .0)) (small .number),
       (
         rw a at (c .before .tell .ensures .1),

@@ -71,7 +71,7 @@ part-planned-end c = search needs
 
 planned-requires : tie.Need-planned-requires
 planned-requires c κs =
-    let k = c .before .before .before .before .before .before .before in
+    let k = c .before .before .before .before .before .before .before .before in
     let a = k .before .before .before .before .before .before .before .args in
     (omega (arith, k .copy .kept .1 .0, length-take (4 * a .s .events) (a .space .now)), search needs)
 
@@ -84,11 +84,11 @@ same-length-2 c = search needs
 returns : tie.Need-returns
 returns c =
     let k = c .before .before .before in
-    let t = k .before .before .before .before .before .before .before .before .before .before .before .before .before .before .before .args in
+    let t = k .before .before .before .before .before .before .before .before .before .before .before .before .before .before .before .before .args in
     answered-as
     (job-at (t .table .now) (t .s)
     (back32 (at (t .table .now) 0) (search)) (back32 (at (t .table .now) 1) (search)) (back32 (at (t .table .now) 2) (search)) (back32 (at (t .table .now) 3) (search)) (back32 (at (t .table .now) 4) (search))
-    (k .before .before .before .before .before .before .before .before .copy .ensures))
+    (k .before .before .before .before .before .before .before .before .before .copy .ensures))
     (k .planned .ensures)
 
 pub table-planned-spec : {M : Type 1} → statement M
