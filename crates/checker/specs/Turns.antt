@@ -53,7 +53,7 @@ Stepped n j wide list stop p left b b′ (On next c) =
 abbrev pub board-call : Job → List ℤ → List ℤ → Call
 board-call k ws b = call-of k ws (table-of (k .events) b)
 
--- Its questions 1 to 11 passed, and the widest windows are on the wide board.
+-- Its questions before 12 passed, and the widest windows are on the wide board.
 pub record Called (k : Job) (ws wide b : List ℤ) : Type 0 where
   pub sane : Sane (board-call k ws b)
   pub standing : Standing (board-call k ws b) (sent (board-call k ws b))
