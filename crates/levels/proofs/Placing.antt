@@ -1,9 +1,9 @@
 -- Places, the mirror and views, as the code computes them.
 -- Assumes nothing.
-use mathlib.Core.Path.{_≡_, refl}
+use mathlib.Core.Path.{_≡_, refl, sym, subst}
 use mathlib.Core.Bool.{Bool, true, false, not, _&&_, _||_}
 use Prim.Native.Nat.{ℕ}
-use lib.Dec.{eqb}
+use lib.Dec.{T, eqb}
 use lib.IntN.{ℤ, negℤ}
 use lib.Signed.{leZ, ltZ}
 use Rattle.model.specs.Job.{t-min, t-max, h-min, h-max, Windows, ahead, Reservoir}
@@ -18,6 +18,17 @@ ahead-strict a b p q = cc
 
 pub ahead-by : {s r : Bool} (a b : ℤ) → s ≡ false → r ≡ leZ a b → r ≡ ahead s a b
 ahead-by a b p q = cc
+
+-- Of whom "before" is meant: deliveries alone (later, on the job's own side), or none.
+pub strict-made : {s r : Bool} (m l p : Bool) → s ≡ false → (not m && l) ≡ true → r ≡ p → r ≡ (s || (not m && (l && p)))
+strict-made true l p a b c = absurd (subst T (sym b) tt)
+strict-made false true p a b c = rw a c
+strict-made false false p a b c = absurd (subst T (sym b) tt)
+
+pub strict-none : {s : Bool} (m l p : Bool) → s ≡ false → (not m && l) ≡ false → false ≡ (s || (not m && (l && p)))
+strict-none true l p a b = rw a
+strict-none false true p a b = absurd (subst T b tt)
+strict-none false false p a b = rw a
 
 -- ---- the mirror
 

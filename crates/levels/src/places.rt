@@ -87,8 +87,13 @@ pub fn strict_at(b: &[i32; 256], m: bool, strict: bool, later: bool, y: usize) -
     requires { ⌜ y < 64 ⌝ }
     ensures { λ r. ⌜ r ≡ strict-at m strict later (board (now (b .entry))) y ⌝ }
 {
-    let made = produces(h_max(b, y));
-    strict | !m & (later & made)
+    if strict {
+        return true;
+    }
+    if !m & later {
+        return produces(h_max(b, y));
+    }
+    false
 }
 
 // Is it e itself; before or by; the test for surely; the test for possibly.
