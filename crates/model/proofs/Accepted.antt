@@ -132,7 +132,7 @@ inside-store {n} {W} {x} i y k v h z m l = go (same-end l k && eqb z y) (λ t. t
 
 module _ (j : Job) (sane : Sane j) (wide : Windows) (signs : Inside (events j) (widest j) wide) (p : Schedule) (legal : Legal j wide p) where
   -- A plan in the windows is in those that the slip leaves, and the slip is no conflict.
-  one-kept : (table : List ℤ) (x : Explanation) (k : ℕ) → length table ≡ 4 * events j → Passed j wide (windows table) x k → Inside (events j) (windows table) (value p)
+  one-kept : (table : List ℤ) (x : Explanation) (k : ℕ) → length table ≡ 5 * events j → Passed j wide (windows table) x k → Inside (events j) (windows table) (value p)
       → Inside (events j) (windows (applied table x)) (value p) × (is-conflict x ≡ true → ⊥)
   one-kept table x k long q i = go (is-conflict x) refl done
     where
@@ -154,7 +154,7 @@ module _ (j : Job) (sane : Sane j) (wide : Windows) (signs : Inside (events j) (
           )
 
   -- A plan in the windows is in those that the slips leave, and none of them is a conflict.
-  pub all-kept : (xs : List Explanation) (table : List ℤ) → length table ≡ 4 * events j → AllPassed j wide table xs → Inside (events j) (windows table) (value p)
+  pub all-kept : (xs : List Explanation) (table : List ℤ) → length table ≡ 5 * events j → AllPassed j wide table xs → Inside (events j) (windows table) (value p)
       → Inside (events j) (windows (replayed table xs)) (value p) × Each (λ (x : Explanation). is-conflict x ≡ true → ⊥) xs
   unfolding replayed
   all-kept [] table long q i = (i, tt)
@@ -171,7 +171,7 @@ narrowing-is true false v t = refl
 narrowing-is false b v t = absurd t
 
 -- A slip that passes leaves the windows standing.
-pub passed-standing : (j : Job) (wide : Windows) (table : List ℤ) (x : Explanation) (k : ℕ) → length table ≡ 4 * events j → Standing j (windows table) → Passed j wide (windows table) x k → Standing j (windows (applied table x))
+pub passed-standing : (j : Job) (wide : Windows) (table : List ℤ) (x : Explanation) (k : ℕ) → length table ≡ 5 * events j → Standing j (windows table) → Passed j wide (windows table) x k → Standing j (windows (applied table x))
 passed-standing j wide table x k long std q = go (is-conflict x) refl
   where
     go : (b : Bool) → is-conflict x ≡ b → Standing j (windows (applied table x))
@@ -183,7 +183,7 @@ passed-standing j wide table x k long std q = go (is-conflict x) refl
         let n = narrowing-is (meets (opposite l) (W y (opposite l)) (x .value)) (meets l (x .value) (W y l)) (x .value) (q .narrowing e) in
         rw e (standing-narrow j table y l (bound (x .value)) (x .value) long (named j x (q .named) .target-real) std n)
 
-pub all-standing : (j : Job) (wide : Windows) (xs : List Explanation) (table : List ℤ) → length table ≡ 4 * events j → Standing j (windows table) → AllPassed j wide table xs → Standing j (windows (replayed table xs))
+pub all-standing : (j : Job) (wide : Windows) (xs : List Explanation) (table : List ℤ) → length table ≡ 5 * events j → Standing j (windows table) → AllPassed j wide table xs → Standing j (windows (replayed table xs))
 unfolding replayed
 all-standing j wide [] table long std q = std
 all-standing j wide (x ∷ xs) table long std q =

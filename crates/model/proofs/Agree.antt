@@ -11,9 +11,9 @@ use lib.Signed.{leZ, ltZ}
 use Rattle.integers.specs.Range.{eqZ}
 use Rattle.integers.proofs.Sums.{sum-ext}
 use Rattle.integers.proofs.Tests.{true-is}
-use Rattle.model.specs.Job.{End, t-min, t-max, h-min, h-max, opposite, meets, Windows, Job, lag-a, lag-b, lag-d, events, ahead, counts-later}
+use Rattle.model.specs.Job.{End, t-min, t-max, h-min, h-max, opposite, meets, Windows, Job, lag-a, lag-b, lag-d, events, ahead, counts-later, home}
 use Rattle.model.specs.Standing.{Sane, Standing}
-use Rattle.model.specs.View.{side-end, side-value, View, view, seen, view-of}
+use Rattle.model.specs.View.{side-end, side-value, View, view, seen, view-of, shown, here}
 use Rattle.model.specs.Levels.{placed, place, gain, gains, most-in, most, sure-gain, sure-part, e-min, e-max, stands}
 use Rattle.model.specs.Rules.{Finding, nothing, clash, bound, given-if, counts-from, earlier, possible-producer, reached-at, earliest, targeted, Family, level, time, height, Rule, lag-upper, lag-lower, reservoir, rule, family-rule, family-end, side-finding, finding, own-end, Effect, idle, narrows, fails, effect, failed, subjects, is-narrowing}
 use Rattle.model.specs.Facts.{any, left-out, surely-consumed, late, early, cites, says, latest, quotes-top, quotes, quoted, drops, family-cites, family-says, first-late, last-early}
@@ -32,7 +32,7 @@ pub agree-sym : (n : ℕ) (W X : Windows) → Agree n W X → Agree n X W
 agree-sym n W X a y l k = sym (a y l k)
 
 pub seen-agree : (j : Job) (m : Bool) (e n : ℕ) (W X : Windows) → Agree n W X → Agree n (seen j m e W) (seen j m e X)
-seen-agree j m e n W X a y l k = ap (side-value m k) (a y l (side-end m k))
+seen-agree j m e n W X a y l k = ap (λ v. shown (here j e y) k (side-value m k v)) (a y l (side-end m k))
 
 -- ---- levels, rules and facts
 
@@ -119,13 +119,13 @@ module _ (E : View) (s : ℕ → Bool) (same : (y : ℕ) → y < E .events → E
     says-agree z l h-max = a z l h-max
 
 -- On standing windows a job's view may tell deliveries by the amounts at hand.
-pub before-here : (j : Job) (m b : Bool) {W : Windows} → Standing j W → (e y : ℕ) → y < events j → view j m b e .before y ≡ (b || (not m && counts-later (j .reservoir) (W y h-max)))
+pub before-here : (j : Job) (m b : Bool) {W : Windows} → Standing j W → (e y : ℕ) → y < events j → view j m b e .before y ≡ (b || (not m && counts-later (home j e) (W y h-max)))
 before-here j m b {W} std e y l =
-    ap (λ p. b || (not m && (eqZ (j .reservoir .cover) (pos 0) && p))) (sym (kind-kept j W (std .within) (std .heights) y l))
+    ap (λ p. b || (not m && (eqZ (home j e .cover) (pos 0) && p))) (sym (kind-kept j W (std .within) (std .heights) y l))
 
 module _ (j : Job) (m b : Bool) (e : ℕ) (W : Windows) where
   abbrev pub at-hand : View
-  at-hand = view-of (events j) (j .reservoir) (λ y. W y h-max) m b e
+  at-hand = view-of (events j) (home j e) (λ y. W y h-max) m b e
 
   module _ (std : Standing j W) where
     pub rule-at-hand : e < events j → (f : Family) (y : ℕ) → y < events j → family-rule f (view j m b e) (seen j m e W) y ≡ family-rule f at-hand (seen j m e W) y

@@ -1,16 +1,18 @@
 -- What an effect tells of the finding that it comes from, and findings, bounds and effects read on a side.
 -- Assumes nothing.
-use mathlib.Core.Path.{_≡_, refl, sym, ap, _∙_}
-use mathlib.Core.Bool.{Bool, true, false, cond}
+use mathlib.Core.Path.{_≡_, refl, sym, ap, ap₂, subst, _∙_}
+use mathlib.Core.Bool.{Bool, true, false, not, cond}
 use Prim.Native.Nat.{ℕ}
 use native.Mathlib.Omega.{arith}
-use lib.Dec.{T, eqb}
-use lib.IntN.{ℤ}
+use lib.Dec.{T, eqb, T-not}
+use lib.IntN.{ℤ, pos, _-ℤ_}
+use Rattle.integers.proofs.Tests.{is-false}
 use Rattle.model.specs.Job.{End, t-min, t-max, h-min, h-max, opposite, meets, Windows, Job}
-use Rattle.model.specs.View.{side-value, side-end, side}
-use Rattle.model.specs.Rules.{Finding, nothing, clash, bound, given-if, side-finding, Effect, idle, narrows, fails, effect, failed, Family, level, time, height, reservoir, target-fits}
+use Rattle.model.specs.View.{side-value, side-end, side, View, seen, here}
+use Rattle.model.specs.Levels.{Place, sure, possible, never, most, stands}
+use Rattle.model.specs.Rules.{Finding, nothing, clash, bound, given-if, side-finding, Effect, idle, narrows, fails, effect, failed, Family, level, time, height, reservoir, target-fits, targeted, family-rule, family-end}
 use Rattle.model.specs.Reader.{as-strict}
-use Rattle.model.proofs.Sides.{side-value-twice, side-meets}
+use Rattle.model.proofs.Sides.{side-value-twice, side-meets, amount, shown-is}
 
 -- ---- an effect and its finding
 
@@ -84,3 +86,45 @@ pub fits-aims : (m b : Bool) (f : Family) (j : Job) (e y : ℕ) → T (target-fi
 fits-aims m b level j e y t = t
 fits-aims m b time j e y t = t
 fits-aims m b height j e y t = tt
+
+-- ---- what another cage's event may be told
+
+-- Shown as neutral it is no target.
+pub target-here : (k : Place) (b : Bool) (v : ℤ) → T (targeted k (cond b v (pos 0))) → T b
+target-here k true v t = tt
+target-here sure false v t = t
+target-here possible false v t = t
+target-here never false v t = t
+
+-- A finding about an amount of another cage's event is nothing.
+abbrev pub Quiet : Bool → End → Finding → Type 0
+Quiet b k g = T (amount k) → T (not b) → g ≡ nothing
+
+pub quiet-here : (b : Bool) (k : End) (v : ℤ) → Quiet b k (bound v) → T (amount k) → T b
+quiet-here true k v q a = tt
+quiet-here false k v q a = absurd (let p = q a tt in let z : _≡_ {A = ℕ} 0 1 = cc in omega arith)
+
+pub family-quiet : (j : Job) (m : Bool) (e : ℕ) (E : View) (W : Windows) (y : ℕ) (f : Family) → Quiet (here j e y) (family-end f) (family-rule f E (seen j m e W) y)
+family-quiet j m e E W y level a h = absurd a
+family-quiet j m e E W y time a h = absurd a
+family-quiet j m e E W y height a h =
+    ap (λ b. given-if b (bound (E .limit -ℤ (most E (seen j m e W) -ℤ seen j m e W y h-max))))
+    (is-false (targeted (stands E (seen j m e W) y) (seen j m e W y h-max)) (λ t. T-not (here j e y) h (target-here (stands E (seen j m e W) y) (here j e y) (side m W y h-max) t)))
+
+same-amount : (k : End) → amount (opposite k) ≡ amount k
+same-amount t-min = refl
+same-amount t-max = refl
+same-amount h-min = refl
+same-amount h-max = refl
+
+-- The effect of a finding, told in the windows that the rule sees.
+pub effect-seen : (j : Job) (m : Bool) (e : ℕ) (k : End) (W : Windows) (y : ℕ) (g : Finding) → Quiet (here j e y) k g → effect (side-end m k) W y (side-finding m k g) ≡ side-effect m k (effect k (seen j m e W) y g)
+effect-seen j m e k W y nothing q = refl
+effect-seen j m e k W y clash q = refl
+effect-seen j m e k W y (bound v) q =
+    let b = here j e y in
+    let f = quiet-here b k v q in
+    effect-side m k W y (bound v)
+    ∙ ap₂ (λ u w. side-effect m k (cond (meets (opposite k) u v) (cond (meets k v w) idle (narrows v)) fails))
+    (sym (shown-is b (opposite k) (side m W y (opposite k)) (λ t. f (subst T (same-amount k) t))))
+    (sym (shown-is b k (side m W y k) f))

@@ -1,4 +1,4 @@
-pub mod Cases
+pub mod Abacus
 pub mod Texts
 pub mod Questions
 pub mod Order

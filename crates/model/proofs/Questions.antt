@@ -13,9 +13,9 @@ use lib.Signed.{leZ, ltZ, _≤ℤ_}
 use Rattle.integers.specs.Range.{Within}
 use Rattle.integers.proofs.Linear.{ints}
 use Rattle.integers.proofs.Tests.{and-out, and-in, or-out}
-use Rattle.model.specs.Job.{End, t-min, t-max, h-min, h-max, meets, widest, produces, consumes, Job, lags, lag-word, events, sent, windows}
+use Rattle.model.specs.Job.{End, t-min, t-max, h-min, h-max, meets, widest, produces, consumes, Job, lags, lag-word, events, sent, windows, cages, cage, cage-word, Reservoir}
 use Rattle.model.specs.Standing.{Sane, Standing, SaneCage, SaneLag}
-use Rattle.model.specs.Questions.{Check, pass, refuse, ask, each, in-range, is-event, times-right, heights-right, lag-events, lag-differs, lag-in-range, limit-in-range, questions, _then_, horizon-right, limits-right, stock-right, events-whole, lags-whole, room-right, own-questions, cage-questions, window-questions, lag-questions, cover-right}
+use Rattle.model.specs.Questions.{Check, pass, refuse, ask, each, in-range, is-event, times-right, heights-right, lag-events, lag-differs, lag-in-range, limit-in-range, questions, _then_, horizon-right, limits-right, stock-right, events-whole, lags-whole, room-right, own-questions, cage-questions, window-questions, lag-questions, cover-right, cages-whole, cage-right}
 use Rattle.model.proofs.Order.{event-below}
 
 -- ---- checks
@@ -143,19 +143,21 @@ module _ (l m : ℤ) (o : l ≤ℤ m) where
 pub record Asked (j : Job) (room : ℕ) : Type 0 where
   pub sane : Sane j
   pub standing : Standing j (sent j)
-  pub whole-events : length (j .window-table) ≡ 4 * events j
+  pub whole-events : length (j .window-table) ≡ 5 * events j
   pub room-low : 3 ≤ room
   pub room-high : room ≤ 1000000
 
 -- The tests that the job's own questions let pass.
 record Answers (j : Job) : Type 0 where
   q1 : T (horizon-right (j .horizon))
-  q2 : T (limits-right (j .reservoir))
-  q3 : T (stock-right (j .reservoir))
-  q22 : T (cover-right (j .reservoir))
+  q29 : T (cages-whole (j .cage-table))
+  q2 : (c : ℕ) → c < cages j → T (limits-right (cage j c))
+  q3 : (c : ℕ) → c < cages j → T (stock-right (cage j c))
+  q22 : (c : ℕ) → c < cages j → T (cover-right (cage j c))
   q4 : T (events-whole (j .window-table))
   q5 : (y : ℕ) → y < events j → T (times-right (j .horizon) (sent j) y)
   q6 : (y : ℕ) → y < events j → T (heights-right (sent j) y)
+  q30 : (y : ℕ) → y < events j → T (cage-right (cages j) (j .window-table) y)
   q7 : T (lags-whole (j .lag-table))
   q8 : (g : ℕ) → g < lags j → T (lag-events (events j) (j .lag-table) g)
   q9 : (g : ℕ) → g < lags j → T (lag-differs (j .lag-table) g)
@@ -165,29 +167,34 @@ answers : (j : Job) → own-questions j ≡ pass → Answers j
 unfolding own-questions
 answers j e =
     let h = j .horizon in
-    let c = j .reservoir in
+    let cs = j .cage-table in
+    let k = cages j in
     let table = j .window-table in
     let ws = j .lag-table in
     let n = events j in
     let m = lags j in
-    let g1 = then-out (cage-questions h c) _ e in
-    let g2 = then-out (window-questions h table) (lag-questions n ws) (g1 .1) in
+    let g1 = then-out (cage-questions h cs) _ e in
+    let g2 = then-out (window-questions h k table) (lag-questions n ws) (g1 .1) in
     let a1 = then-out (ask 1 (horizon-right h)) _ (g1 .0) in
-    let a2 = then-out (ask 2 (limits-right c)) _ (a1 .1) in
-    let a3 = then-out (ask 3 (stock-right c)) (ask 22 (cover-right c)) (a2 .1) in
+    let a29 = then-out (ask 29 (cages-whole cs)) _ (a1 .1) in
+    let a2 = then-out (each 2 (λ c. limits-right (cage j c)) 0 k) _ (a29 .1) in
+    let a3 = then-out (each 3 (λ c. stock-right (cage j c)) 0 k) (each 22 (λ c. cover-right (cage j c)) 0 k) (a2 .1) in
     let a4 = then-out (ask 4 (events-whole table)) _ (g2 .0) in
-    let a5 = then-out (each 5 (times-right h (windows table)) 0 n) (each 6 (heights-right (windows table)) 0 n) (a4 .1) in
+    let a5 = then-out (each 5 (times-right h (windows table)) 0 n) _ (a4 .1) in
+    let a6 = then-out (each 6 (heights-right (windows table)) 0 n) (each 30 (cage-right k table) 0 n) (a5 .1) in
     let a7 = then-out (ask 7 (lags-whole ws)) _ (g2 .1) in
     let a8 = then-out (each 8 (lag-events n ws) 0 m) _ (a7 .1) in
     let a9 = then-out (each 9 (lag-differs ws) 0 m) (each 10 (lag-in-range ws) 0 m) (a8 .1) in
     record {
       q1 = ask-out 1 (horizon-right h) (a1 .0);
-      q2 = ask-out 2 (limits-right c) (a2 .0);
-      q3 = ask-out 3 (stock-right c) (a3 .0);
-      q22 = ask-out 22 (cover-right c) (a3 .1);
+      q29 = ask-out 29 (cages-whole cs) (a29 .0);
+      q2 = all-out 2 (λ c. limits-right (cage j c)) k (a2 .0);
+      q3 = all-out 3 (λ c. stock-right (cage j c)) k (a3 .0);
+      q22 = all-out 22 (λ c. cover-right (cage j c)) k (a3 .1);
       q4 = ask-out 4 (events-whole table) (a4 .0);
       q5 = all-out 5 (times-right h (windows table)) n (a5 .0);
-      q6 = all-out 6 (heights-right (windows table)) n (a5 .1);
+      q6 = all-out 6 (heights-right (windows table)) n (a6 .0);
+      q30 = all-out 30 (cage-right k table) n (a6 .1);
       q7 = ask-out 7 (lags-whole ws) (a7 .0);
       q8 = all-out 8 (lag-events n ws) m (a8 .0);
       q9 = all-out 9 (lag-differs ws) m (a9 .0);
@@ -204,18 +211,17 @@ asked-again j room other e l m =
 event-sign : (n : ℕ) (w : ℤ) → T (is-event n w) → pos 0 ≤ℤ w
 event-sign n w t = record { le = and-out (leZ (pos 0) w) (ltZ w (pos n)) t .0 }
 
-module _ (j : Job) where
-  cage-of : Answers j → SaneCage (j .reservoir)
-  cage-of a =
-      let c = j .reservoir in
-      let u = and-out (limit-in-range (c .min-level) && limit-in-range (c .max-level)) (limit-in-range (c .initial)) (a .q2) in
-      let v = and-out (limit-in-range (c .min-level)) (limit-in-range (c .max-level)) (u .0) in
-      record {
-        min-range = around 999999 (c .min-level) (v .0);
-        max-range = around 999999 (c .max-level) (v .1);
-        initial-range = around 999999 (c .initial) (u .1);
-      }
+sane-cage : (c : Reservoir) → T (limits-right c) → SaneCage c
+sane-cage c t =
+    let u = and-out (limit-in-range (c .min-level) && limit-in-range (c .max-level)) (limit-in-range (c .initial)) t in
+    let v = and-out (limit-in-range (c .min-level)) (limit-in-range (c .max-level)) (u .0) in
+    record {
+      min-range = around 999999 (c .min-level) (v .0);
+      max-range = around 999999 (c .max-level) (v .1);
+      initial-range = around 999999 (c .initial) (u .1);
+    }
 
+module _ (j : Job) where
   lag-of : Answers j → (g : ℕ) → g < lags j → SaneLag (events j) (j .lag-table) g
   lag-of a g l =
       let n = events j in
@@ -232,14 +238,21 @@ module _ (j : Job) where
   sane-of : Answers j → Sane j
   sane-of a =
       let t1 = in-range-out (pos 0) (pos 20000) (j .horizon) (a .q1) in
-      let t4 = and-out (eqb (length (j .window-table) % 4) 0) (leb (length (j .window-table)) 256) (a .q4) in
-      let u4 = leb→le (length (j .window-table)) 256 (t4 .1) in
+      let t29 = and-out (eqb (length (j .cage-table) % 4) 0 && leb 4 (length (j .cage-table))) (leb (length (j .cage-table)) 32) (a .q29) in
+      let u29 = leb→le 4 (length (j .cage-table)) (and-out (eqb (length (j .cage-table) % 4) 0) (leb 4 (length (j .cage-table))) (t29 .0) .1) in
+      let v29 = leb→le (length (j .cage-table)) 32 (t29 .1) in
+      let t4 = and-out (eqb (length (j .window-table) % 5) 0) (leb (length (j .window-table)) 320) (a .q4) in
+      let u4 = leb→le (length (j .window-table)) 320 (t4 .1) in
       let t7 = and-out (eqb (length (j .lag-table) % 3) 0) (leb (length (j .lag-table)) 768) (a .q7) in
       let u7 = leb→le (length (j .lag-table)) 768 (t7 .1) in
       record {
         horizon-low = t1 .0;
         horizon-high = t1 .1;
-        cage = cage-of a;
+        some-cage = omega arith;
+        few-cages = omega arith;
+        cage = λ c l. sane-cage (cage j c) (a .q2 c l);
+        cage-sign = λ y l. event-sign (cages j) (cage-word (j .window-table) y) (a .q30 y l);
+        cage-real = λ y l. event-below (cages j) (cage-word (j .window-table) y) (a .q30 y l);
         few-events = omega arith;
         few-lags = omega arith;
         lag = lag-of a;
@@ -284,8 +297,8 @@ module _ (j : Job) where
   asked room e =
       let r = then-out (own-questions j) (ask 11 (room-right room)) e in
       let a = answers j (r .0) in
-      let t4 = and-out (eqb (length (j .window-table) % 4) 0) (leb (length (j .window-table)) 256) (a .q4) in
-      let u4 = eqb→eq (length (j .window-table) % 4) 0 (t4 .0) in
+      let t4 = and-out (eqb (length (j .window-table) % 5) 0) (leb (length (j .window-table)) 320) (a .q4) in
+      let u4 = eqb→eq (length (j .window-table) % 5) 0 (t4 .0) in
       let t11 = and-out (leb 3 room) (leb room 1000000) (ask-out 11 (room-right room) (r .1)) in
       record {
         sane = sane-of a;

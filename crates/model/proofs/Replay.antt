@@ -103,7 +103,7 @@ module _ (j : Job) (sane : Sane j) where
 
   -- Reading the planner's slips from the table that they were written on gives the table after them.
   pub slips-read : (xs : List Explanation) (pre rest : List ℤ) (stop i p last : ℕ) (c : Bool) (table : List ℤ) → length pre ≡ p → p + length (log-words xs) ≤ stop →
-      length table ≡ 4 * events j → Standing j (windows table) → Written j table xs → All-formed xs → Conflict-last xs →
+      length table ≡ 5 * events j → Standing j (windows table) → Written j table xs → All-formed xs → Conflict-last xs →
       read-from j (widest j) (pre ++ (log-words xs ++ rest)) stop (length xs) i p last c table
       ≡ record { check = pass; conflicting = conflicting-after c xs; table = replayed table xs; after = p + length (log-words xs); last = last-begins p last xs }
   unfolding log-words last-begins conflicting-after replayed
@@ -123,7 +123,7 @@ module _ (j : Job) (sane : Sane j) where
       ∙ more
       ∙ ends-at (conflicting-after (is-conflict x) xs) (replayed (applied table x) xs) (last-begins next p xs) (next + length (log-words xs)) (p + length (slip-words x ++ log-words xs)) (omega arith)
 
-module _ (j : Job) (sane : Sane j) (whole : length (j .window-table) ≡ 4 * events j) (standing : Standing j (sent j)) (xs : List Explanation)
+module _ (j : Job) (sane : Sane j) (whole : length (j .window-table) ≡ 5 * events j) (standing : Standing j (sent j)) (xs : List Explanation)
     (written : Written j (j .window-table) xs) (formed : All-formed xs) (last-one : Conflict-last xs) where
   list-read : read-all j (listed xs) ≡ record { check = pass; conflicting = conflicting-after false xs; table = replayed (j .window-table) xs; after = length (log-words xs); last = last-begins 0 0 xs }
   unfolding read-all

@@ -42,7 +42,7 @@ pub record Kept (room : ℕ) (j : Job) (s : State) : Type 0 where
   pub formed : All-formed slips-written
   pub conflict-last : Conflict-last slips-written
   pub status-fits : Status-fits (s .status) slips-written
-  pub whole : length (s .table) ≡ 4 * events j
+  pub whole : length (s .table) ≡ 5 * events j
   pub standing : Standing j (windows (s .table))
   pub trailer-fits : length (s .log) + 3 ≤ room
 
@@ -52,7 +52,7 @@ slips-room room j s k = omega (arith, k .count-is, ap length (k .log-is), log-wo
 
 module _ (room : ℕ) (j : Job) where
   -- It holds at the start.
-  pub start-kept : length (j .window-table) ≡ 4 * events j → Standing j (sent j) → 3 ≤ room → Kept room j (start (j .window-table))
+  pub start-kept : length (j .window-table) ≡ 5 * events j → Standing j (sent j) → 3 ≤ room → Kept room j (start (j .window-table))
   unfolding log-words last-begins replayed
   start-kept long std fit =
       record {
@@ -240,7 +240,7 @@ module _ (room : ℕ) (j : Job) (sane : Sane j) where
       record { kept = f .kept; verdict-fits = f .verdict-fits; begun = omega (arith, f .begun); counted = omega (arith, f .counted, onward .more, some) }
 
   -- The planner's run: the room is fuel enough, the rounds begun are at most one more than the slips, and so on.
-  module _ (whole : length (j .window-table) ≡ 4 * events j) (standing : Standing j (sent j)) (fit : 3 ≤ room) where
+  module _ (whole : length (j .window-table) ≡ 5 * events j) (standing : Standing j (sent j)) (fit : 3 ≤ room) where
     pub plan-runs : Runs room j (run room j room 0 (start (j .window-table))) 0 (start (j .window-table))
     plan-runs = run-runs room j sane room 0 (start (j .window-table)) (start-kept room j whole standing fit) (omega arith)
 

@@ -1,15 +1,15 @@
 -- What a rule sees: the mirror turns bounds, windows and signs, and twice is nothing; windows seen in a view stand to one another as those that they show. So what is proved of views is proved of rules 3 to 14.
 -- Assumes nothing.
-use mathlib.Core.Path.{_≡_, refl, sym, subst}
-use mathlib.Core.Bool.{Bool, true, false}
+use mathlib.Core.Path.{_≡_, refl, sym, subst, _∙_}
+use mathlib.Core.Bool.{Bool, true, false, cond}
 use Prim.Native.Nat.{ℕ, _<_}
 use lib.Dec.{T}
-use lib.IntN.{ℤ, negℤ, negℤ-negℤ}
-use lib.Signed.{leZ, _≤ℤ_}
+use lib.IntN.{ℤ, negℤ, negℤ-negℤ, pos, _+ℤ_}
+use lib.Signed.{leZ, _≤ℤ_, _<ℤ_}
 use Rattle.integers.proofs.Linear.{ints, neg-law}
 use Rattle.integers.proofs.Tests.{same-test}
 use Rattle.model.specs.Job.{End, t-min, t-max, h-min, h-max, meets, Windows, Job, Schedule, value, Inside, produces, consumes}
-use Rattle.model.specs.View.{side-value, side-end, side, seen}
+use Rattle.model.specs.View.{side-value, side-end, side, seen, here, shown}
 use Rattle.model.proofs.Levels.{Signed}
 
 -- ---- tests turn
@@ -63,21 +63,63 @@ side-signed true {n} {W} s =
       consumers = λ y l t. let a = s .producers y l (subst T (neg-consumes (W y h-max)) t) in omega (ints, neg-law (W y h-min));
     }
 
+-- ---- another cage's events shown as neutral
+
+shown-meets : (b : Bool) (k : End) (v x : ℤ) → T (meets k v x) → T (meets k (shown b k v) (shown b k x))
+shown-meets b t-min v x t = t
+shown-meets b t-max v x t = t
+shown-meets true h-min v x t = t
+shown-meets true h-max v x t = t
+shown-meets false h-min v x t = tt
+shown-meets false h-max v x t = tt
+
+-- Is it an amount's end?
+abbrev pub amount : End → Bool
+amount t-min = false
+amount t-max = false
+amount h-min = true
+amount h-max = true
+
+-- What is shown of an end is the end, unless it is an amount of another cage.
+pub shown-is : (b : Bool) (k : End) (v : ℤ) → (T (amount k) → T b) → shown b k v ≡ v
+shown-is b t-min v f = refl
+shown-is b t-max v f = refl
+shown-is true h-min v f = refl
+shown-is true h-max v f = refl
+shown-is false h-min v f = absurd (f tt)
+shown-is false h-max v f = absurd (f tt)
+
 -- ---- what a rule sees
 
 -- The windows seen in a view: inside, filled and signed as those that they show.
 module _ (j : Job) (m : Bool) (e : ℕ) where
   pub seen-inside : {n : ℕ} {W x : Windows} → Inside n W x → Inside n (seen j m e W) (seen j m e x)
-  seen-inside i = side-inside m i
+  seen-inside {n} {W} {x} i = record { inside = λ y l k. shown-meets (here j e y) k (side m W y k) (side m x y k) (side-inside m i .inside y l k) }
 
   pub seen-times : (n : ℕ) (W : Windows) → ((y : ℕ) → y < n → W y t-min ≤ℤ W y t-max) → (y : ℕ) → y < n → seen j m e W y t-min ≤ℤ seen j m e W y t-max
   seen-times n W h = side-times m n W h
 
   pub seen-heights : (n : ℕ) (W : Windows) → ((y : ℕ) → y < n → W y h-min ≤ℤ W y h-max) → (y : ℕ) → y < n → seen j m e W y h-min ≤ℤ seen j m e W y h-max
-  seen-heights n W h = side-heights m n W h
+  seen-heights n W h y l = go (here j e y) (side-heights m n W h y l)
+    where
+      go : (b : Bool) → side m W y h-min ≤ℤ side m W y h-max → cond b (side m W y h-min) (pos 0) ≤ℤ cond b (side m W y h-max) (pos 0)
+      go true o = o
+      go false o = omega ints
 
   pub seen-signed : {n : ℕ} {W : Windows} → Signed n W → Signed n (seen j m e W)
-  seen-signed s = side-signed m s
+  seen-signed {n} {W} s =
+      record {
+        producers = λ y l. made (here j e y) (side m W y h-max) (side m W y h-min) (side-signed m s .producers y l);
+        consumers = λ y l. used (here j e y) (side m W y h-max) (side m W y h-min) (side-signed m s .consumers y l);
+      }
+    where
+      made : (b : Bool) (high low : ℤ) → (T (produces high) → pos 0 <ℤ low) → T (produces (cond b high (pos 0))) → pos 0 <ℤ cond b low (pos 0)
+      made true high low f t = f t
+      made false high low f t = absurd t
+
+      used : (b : Bool) (high low : ℤ) → (T (consumes low) → high <ℤ pos 0) → T (consumes (cond b low (pos 0))) → cond b high (pos 0) <ℤ pos 0
+      used true high low f t = f t
+      used false high low f t = absurd t
 
 -- A schedule is windows whose ends coincide; so it is seen.
 pub record Point (x : Windows) : Type 0 where

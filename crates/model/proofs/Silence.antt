@@ -13,7 +13,7 @@ use Rattle.integers.proofs.Linear.{ints}
 use Rattle.integers.proofs.Sums.{sum-ext}
 use Rattle.integers.proofs.Tests.{is-true}
 use Rattle.model.specs.Job.{End, t-min, t-max, h-min, h-max, slot, windows, Windows, ahead, Job, events}
-use Rattle.model.specs.View.{side-end, View, view, seen}
+use Rattle.model.specs.View.{shown, here, side-end, View, view, seen}
 use Rattle.model.specs.Levels.{placed, e-min, e-max, stands, gain, gains, most-in, most}
 use Rattle.model.specs.Rules.{Finding, nothing, clash, bound, given-if, level-rule, time-rule, targeted, height-rule, Family, level, time, height, Rule, reservoir, family-rule, family-end, rule, finding, own-end, idle, effect}
 use Rattle.model.specs.Agenda.{Attempt, try, Each, each-of, target-attempts, three-attempts, event-attempts}
@@ -21,7 +21,7 @@ use Rattle.model.specs.Rounds.{State, Status, running, ended, acted, att
 use Rattle.model.proofs.Levels.{most-later}
 use Rattle.model.proofs.Time.{Timed, timed, no-earlier}
 use Rattle.model.proofs.Table.{store, slot-inside, windows-set}
-use Rattle.model.proofs.Effects.{side-effect, effect-side}
+use Rattle.model.proofs.Effects.{side-effect, effect-seen, family-quiet}
 use Rattle.model.proofs.Sweeps.{each-append, each-of-all, Step, same, stops, narrowed, failing, attempt-step}
 
 -- ---- attempts that do nothing
@@ -79,7 +79,8 @@ pub seen-idle : (m b : Bool) (f : Family) (j : Job) (W : Windows) (e y : ℕ)
     → effect (family-end f) (seen j m e W) y (family-rule f (view j m b e) (seen j m e W) y) ≡ idle → Idle (reservoir m b f) j W e y
 unfolding finding
 seen-idle m b f j W e y h =
-    effect-side m (family-end f) W y (family-rule f (view j m b e) (seen j m e W) y) ∙ ap (side-effect m (family-end f)) h
+    effect-seen j m e (family-end f) W y (family-rule f (view j m b e) (seen j m e W) y) (family-quiet j m e (view j m b e) W y f)
+    ∙ ap (side-effect m (family-end f)) h
 
 -- ---- what a level tells of the rules
 
@@ -141,7 +142,7 @@ module _ (E : View) (W X : Windows) (a : Spares (E .events) W X) where
       most-in-spared (e-min E W) (e-max E W) ∙ ap₂ (λ u v. most-in E X u v) (a (E .subject) r .0) (a (E .subject) r .1)
 
 -- An attempt of rules 5, 8, 11 and 14 moves an end that the level of its view does not read.
-module _ (room r : ℕ) (j : Job) (e y : ℕ) (s : State) (m : Bool) (own : own-end (rule r) ≡ side-end m h-min) (whole : length (s .table) ≡ 4 * events j) (event : y < events j) where
+module _ (room r : ℕ) (j : Job) (e y : ℕ) (s : State) (m : Bool) (own : own-end (rule r) ≡ side-end m h-min) (whole : length (s .table) ≡ 5 * events j) (event : y < events j) where
   stored-spares : (v : ℤ) → Spares (events j) (seen j m e (windows (s .table))) (seen j m e (windows (set (s .table) (slot y (own-end (rule r))) v)))
   stored-spares v z l =
       let there : slot y (side-end m h-min) < length (s .table) = omega (arith, slot-inside (events j) y (side-end m h-min) event) in
@@ -151,8 +152,8 @@ module _ (room r : ℕ) (j : Job) (e y : ℕ) (s : State) (m : Bool) (own : own-
           → (seen j m e (windows (s .table)) z t-min ≡ seen j m e (windows (set (s .table) (slot y (side-end m h-min)) v)) z t-min)
           × (seen j m e (windows (s .table)) z t-max ≡ seen j m e (windows (set (s .table) (slot y (side-end m h-min)) v)) z t-max)
           × (seen j m e (windows (s .table)) z h-max ≡ seen j m e (windows (set (s .table) (slot y (side-end m h-min)) v)) z h-max)
-      go true at = (sym (at t-min), sym (at t-max), ap negℤ (sym (at h-min)))
-      go false at = (sym (at t-min), sym (at t-max), sym (at h-max))
+      go true at = (sym (at t-min), sym (at t-max), ap (λ v. shown (here j e z) h-max (negℤ v)) (sym (at h-min)))
+      go false at = (sym (at t-min), sym (at t-max), ap (shown (here j e z) h-max) (sym (at h-max)))
 
   step-spares : (t : State) → Step room r j e y s t → Spares (events j) (seen j m e (windows (s .table))) (seen j m e (windows (t .table)))
   step-spares t same = λ z l. (refl, refl, refl)

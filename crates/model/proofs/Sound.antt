@@ -12,18 +12,18 @@ use Rattle.integers.proofs.Linear.{ints, add-law, sub-law, neg-law}
 use Rattle.integers.proofs.Sums.{sum-ext, sum-neg, sum-le, sum-le-but}
 use Rattle.integers.specs.Range.{eqZ}
 use Rattle.integers.proofs.Tests.{same-test, true-is}
-use Rattle.model.specs.Job.{End, t-min, t-max, h-min, h-max, opposite, meets, Windows, Job, Schedule, value, Inside, stock, Legal, lag-a, lag-b, lag-d, events, ahead, counts-later, produces, widest}
+use Rattle.model.specs.Job.{End, t-min, t-max, h-min, h-max, opposite, meets, Windows, Job, Schedule, value, Inside, stock, Legal, lag-a, lag-b, lag-d, events, ahead, counts-later, produces, widest, home, cage, cages, cage-of, brings}
 use Rattle.model.specs.Standing.{Sane}
-use Rattle.model.specs.View.{side-end, View, view, seen, side-value, side-limit}
+use Rattle.model.specs.View.{side-end, View, view, seen, side-value, side-limit, here, side}
 use Rattle.model.specs.Levels.{placed, place, gain, gains, most-in, most, e-min, e-max, stands}
 use Rattle.model.specs.Rules.{Finding, nothing, clash, bound, given-if, time-rule, targeted, Family, level, time, height, Rule, lag-upper, lag-lower, reservoir, family-rule, family-end, side-finding, finding, own-end, Effect, idle, narrows, fails, effect, failed, subjects, target-fits}
 use Rattle.model.specs.Slips.{Explanation, rule-of, subject-of, target-of}
 use Rattle.model.specs.Questions.{is-event}
 use Rattle.model.specs.Reader.{kind-fits, premises-fit, names, all-true, narrowed, is-conflict, as-strict, gives}
-use Rattle.model.proofs.Effects.{aims, fits-aims, across}
+use Rattle.model.proofs.Effects.{aims, fits-aims, across, Quiet, quiet-here, family-quiet}
 use Rattle.model.proofs.Order.{meets-trans, opposite-meets, event-below, narrowed-in, inside-narrowed, inside-trans}
 use Rattle.model.proofs.Levels.{not-lt, ahead-self, Wider, place-weaker, gains-weaker, most-weaker, target-gain, target-adds, Signed, signed-within, add-le, kind-kept}
-use Rattle.model.proofs.Sides.{Point, seen-point, seen-inside, seen-signed}
+use Rattle.model.proofs.Sides.{Point, seen-point, seen-inside, seen-signed, shown-is}
 use Rattle.model.proofs.Time.{Waits, Timed, timed}
 
 -- ---- the stock before or by a moment
@@ -39,76 +39,88 @@ adds E x t y = cond (ahead (E .before y) (x y t-min) t) (x y h-max) (pos 0)
 abbrev pub Low : View → Windows → Type 0
 Low E x = (t : ℤ) → E .limit ≤ℤ stock-at E x t
 
-cond-neg : (b : Bool) (h : ℤ) → cond b (negℤ h) (pos 0) ≡ negℤ (cond b h (pos 0))
-cond-neg true h = refl
-cond-neg false h = refl
+cond-neg : (b c : Bool) (h : ℤ) → cond b (cond c (negℤ h) (pos 0)) (pos 0) ≡ negℤ (cond b (cond c h (pos 0)) (pos 0))
+cond-neg true true h = refl
+cond-neg true false h = refl
+cond-neg false c h = refl
 
--- In the mirror it is turned.
-seen-stock : (j : Job) (m b : Bool) (e : ℕ) (p : Schedule) (t : ℤ) → stock-at (view j m b e) (seen j m e (value p)) t ≡ side-value m h-max (stock (view j m b e .before) j p t)
+-- The stock of e's cage; in the mirror it is turned.
+seen-stock : (j : Job) (m b : Bool) (e : ℕ) (p : Schedule) (t : ℤ) → stock-at (view j m b e) (seen j m e (value p)) t ≡ side-value m h-max (stock (view j m b e .before) j (cage-of j e) p t)
 unfolding stock-at stock
 seen-stock j false b e p t = refl
 seen-stock j true b e p t =
-    let f : ℕ → ℤ = λ y. cond (ahead (view j true b e .before y) (p .time y) t) (p .height y) (pos 0) in
-    ap (λ x. negℤ (j .reservoir .initial) +ℤ x)
-    (sum-ext (events j) (adds (view j true b e) (seen j true e (value p)) t) (λ y. negℤ (f y)) (λ y l. cond-neg (ahead (view j true b e .before y) (p .time y) t) (p .height y))
+    let f : ℕ → ℤ = λ y. cond (ahead (view j true b e .before y) (p .time y) t) (brings j (cage-of j e) p y) (pos 0) in
+    ap (λ x. negℤ (home j e .initial) +ℤ x)
+    (sum-ext (events j) (adds (view j true b e) (seen j true e (value p)) t) (λ y. negℤ (f y)) (λ y l. cond-neg (ahead (view j true b e .before y) (p .time y) t) (here j e y) (p .height y))
     ∙ sum-neg (events j) f)
-    ∙ sym (negℤ-+ℤ (j .reservoir .initial) (sum (events j) f))
+    ∙ sym (negℤ-+ℤ (home j e .initial) (sum (events j) f))
 
 -- Before a moment is by the minute before it.
 before-is : (a t : ℤ) → ltZ a t ≡ leZ a (t -ℤ pos 1)
 before-is a t = same-test (ltZ a t) (leZ a (t -ℤ pos 1)) (λ h. omega (ints, sub-law t (pos 1))) (λ h. omega (ints, sub-law t (pos 1)))
 
-stock-before : (j : Job) (p : Schedule) (t : ℤ) → stock (λ y. true) j p t ≡ stock (λ y. false) j p (t -ℤ pos 1)
-unfolding stock
-stock-before j p t =
-    ap (λ x. j .reservoir .initial +ℤ x)
-    (sum-ext (events j) (λ y. cond (ltZ (p .time y) t) (p .height y) (pos 0)) (λ y. cond (leZ (p .time y) (t -ℤ pos 1)) (p .height y) (pos 0)) (λ y l. ap (λ b. cond b (p .height y) (pos 0)) (before-is (p .time y) t)))
-
-stock-same : (s r : ℕ → Bool) (j : Job) (p : Schedule) (t : ℤ) → ((y : ℕ) → y < events j → s y ≡ r y) → stock s j p t ≡ stock r j p t
-unfolding stock
-stock-same s r j p t h =
-    ap (λ x. j .reservoir .initial +ℤ x)
-    (sum-ext (events j) (λ y. cond (ahead (s y) (p .time y) t) (p .height y) (pos 0)) (λ y. cond (ahead (r y) (p .time y) t) (p .height y) (pos 0)) (λ y l. ap (λ b. cond (ahead b (p .time y) t) (p .height y) (pos 0)) (h y l)))
-
 -- Where only deliveries count later, no more counts than strictly before.
-later-adds : (b : Bool) (h a t : ℤ) → produces h ≡ b → cond (ahead b a t) h (pos 0) ≤ℤ cond (ltZ a t) h (pos 0)
+later-adds : (b : Bool) (h a t : ℤ) → (b ≡ false → h ≤ℤ pos 0) → cond (ahead b a t) h (pos 0) ≤ℤ cond (ltZ a t) h (pos 0)
 later-adds true h a t e = omega ints
-later-adds false h a t e = go (leZ a t) (ltZ a t) (λ q. omega ints)
+later-adds false h a t e = go (leZ a t) (ltZ a t) (λ q. omega ints) (e refl)
   where
-    go : (x y : Bool) → (T y → T x) → cond x h (pos 0) ≤ℤ cond y h (pos 0)
-    go true true q = omega ints
-    go true false q = omega ints
-    go false true q = absurd (q tt)
-    go false false q = omega ints
+    go : (x y : Bool) → (T y → T x) → h ≤ℤ pos 0 → cond x h (pos 0) ≤ℤ cond y h (pos 0)
+    go true true q l = omega ints
+    go true false q l = omega ints
+    go false true q l = absurd (q tt)
+    go false false q l = omega ints
 
-deliveries-later : (j : Job) (p : Schedule) (t : ℤ) → stock (λ y. produces (p .height y)) j p t ≤ℤ stock (λ y. true) j p t
-unfolding stock
-deliveries-later j p t =
-    add-le (j .reservoir .initial) _ _
-    (sum-le (events j) (λ y. cond (ahead (produces (p .height y)) (p .time y) t) (p .height y) (pos 0)) (λ y. cond (ltZ (p .time y) t) (p .height y) (pos 0)) (λ y l. later-adds (produces (p .height y)) (p .height y) (p .time y) t refl))
+brings-no : (b : Bool) (h : ℤ) → produces h ≡ false → cond b h (pos 0) ≤ℤ pos 0
+brings-no true h e = omega ints
+brings-no false h e = omega ints
 
--- The low limit by cover holds before every moment as well.
-low-before : (j : Job) (p : Schedule) → ((m : ℤ) → j .reservoir .min-level ≤ℤ stock (λ y. counts-later (j .reservoir) (p .height y)) j p m) → (t : ℤ) → j .reservoir .min-level ≤ℤ stock (λ y. true) j p t
-low-before j p h t = go (eqZ (j .reservoir .cover) (pos 0)) h
-  where
-    go : (c : Bool) → ((m : ℤ) → j .reservoir .min-level ≤ℤ stock (λ y. c && produces (p .height y)) j p m) → j .reservoir .min-level ≤ℤ stock (λ y. true) j p t
-    go true f = let a = f t in let b = deliveries-later j p t in omega ints
-    go false f = let a = f (t -ℤ pos 1) in let b = stock-before j p t in omega ints
+module _ (j : Job) (c : ℕ) (p : Schedule) where
+  -- What an event adds by t, before t if s.
+  abbrev part : Bool → ℤ → ℕ → ℤ
+  part s t y = cond (ahead s (p .time y) t) (brings j c p y) (pos 0)
+
+  stock-before : (t : ℤ) → stock (λ y. true) j c p t ≡ stock (λ y. false) j c p (t -ℤ pos 1)
+  unfolding stock
+  stock-before t =
+      ap (λ x. cage j c .initial +ℤ x)
+      (sum-ext (events j) (part true t) (part false (t -ℤ pos 1)) (λ y l. ap (λ b. cond b (brings j c p y) (pos 0)) (before-is (p .time y) t)))
+
+  stock-same : (s r : ℕ → Bool) (t : ℤ) → ((y : ℕ) → y < events j → s y ≡ r y) → stock s j c p t ≡ stock r j c p t
+  unfolding stock
+  stock-same s r t h =
+      ap (λ x. cage j c .initial +ℤ x) (sum-ext (events j) (λ y. part (s y) t y) (λ y. part (r y) t y) (λ y l. ap (λ b. part b t y) (h y l)))
+
+  deliveries-later : (t : ℤ) → stock (λ y. produces (p .height y)) j c p t ≤ℤ stock (λ y. true) j c p t
+  unfolding stock
+  deliveries-later t =
+      add-le (cage j c .initial) _ _
+      (sum-le (events j) (λ y. part (produces (p .height y)) t y) (part true t) (λ y l. later-adds (produces (p .height y)) (brings j c p y) (p .time y) t (brings-no (eqb (cage-of j y) c) (p .height y))))
+
+  -- The low limit by cover holds before every moment as well.
+  low-before : ((m : ℤ) → cage j c .min-level ≤ℤ stock (λ y. counts-later (cage j c) (p .height y)) j c p m) → (t : ℤ) → cage j c .min-level ≤ℤ stock (λ y. true) j c p t
+  low-before h t = go (eqZ (cage j c .cover) (pos 0)) h
+    where
+      go : (o : Bool) → ((m : ℤ) → cage j c .min-level ≤ℤ stock (λ y. o && produces (p .height y)) j c p m) → cage j c .min-level ≤ℤ stock (λ y. true) j c p t
+      go true f = let a = f t in let b = deliveries-later t in omega ints
+      go false f = let a = f (t -ℤ pos 1) in let b = stock-before t in omega ints
 
 -- A legal schedule in the widest windows keeps the limit of every view.
-pub legal-low : (m b : Bool) {j : Job} {W : Windows} {p : Schedule} (e : ℕ) → Inside (events j) (widest j) (value p) → Legal j W p → Low (view j m b e) (seen j m e (value p))
-legal-low m b {j} {W} {p} e wide h t = rw (seen-stock j m b e p t) (go m b)
+pub legal-low : (m b : Bool) {j : Job} {W : Windows} {p : Schedule} (e : ℕ) → cage-of j e < cages j → Inside (events j) (widest j) (value p) → Legal j W p → Low (view j m b e) (seen j m e (value p))
+legal-low m b {j} {W} {p} e real wide h t = rw (seen-stock j m b e p t) (go m b)
   where
-    high : (u : ℤ) → negℤ (j .reservoir .max-level) ≤ℤ negℤ (stock (λ y. false) j p u)
-    high u = let a = h .below-max u in omega (ints, neg-law (stock (λ y. false) j p u), neg-law (j .reservoir .max-level))
+    c : ℕ
+    c = cage-of j e
 
-    go : (m b : Bool) → side-limit m (j .reservoir) ≤ℤ side-value m h-max (stock (view j m b e .before) j p t)
-    go false true = low-before j p (h .above-min) t
+    high : (u : ℤ) → negℤ (cage j c .max-level) ≤ℤ negℤ (stock (λ y. false) j c p u)
+    high u = let a = h .below-max c real u in omega (ints, neg-law (stock (λ y. false) j c p u), neg-law (cage j c .max-level))
+
+    go : (m b : Bool) → side-limit m (home j e) ≤ℤ side-value m h-max (stock (view j m b e .before) j c p t)
+    go false true = low-before j c p (h .above-min c real) t
     go false false =
-        let a = h .above-min t in
-        let c = stock-same (view j false false e .before) (λ y. counts-later (j .reservoir) (p .height y)) j p t (λ y l. ap (λ b. eqZ (j .reservoir .cover) (pos 0) && b) (sym (kind-kept j (value p) wide (λ y l. omega ints) y l))) in
+        let a = h .above-min c real t in
+        let d = stock-same j c p (view j false false e .before) (λ y. counts-later (cage j c) (p .height y)) t (λ y l. ap (λ b. eqZ (cage j c .cover) (pos 0) && b) (sym (kind-kept j (value p) wide (λ y l. omega ints) y l))) in
         omega ints
-    go true true = rw (stock-before j p t) (high (t -ℤ pos 1))
+    go true true = rw (stock-before j c p t) (high (t -ℤ pos 1))
     go true false = high t
 
 -- ---- the level of a schedule
@@ -208,10 +220,11 @@ module _ (E : View) (W : Windows) {x : Windows} (point : Point x) (i : Inside (E
 
 -- ---- all rules
 
-holds-seen : (j : Job) (m : Bool) (e : ℕ) (k : End) (x : Windows) (y : ℕ) (g : Finding) → Holds (seen j m e x) k y g → Holds x (side-end m k) y (side-finding m k g)
-holds-seen j m e k x y nothing h = tt
-holds-seen j m e k x y clash h = h
-holds-seen j m e k x y (bound v) h = subst T (sym (across m k v (x y (side-end m k)))) h
+holds-seen : (j : Job) (m : Bool) (e : ℕ) (k : End) (x : Windows) (y : ℕ) (g : Finding) → Quiet (here j e y) k g → Holds (seen j m e x) k y g → Holds x (side-end m k) y (side-finding m k g)
+holds-seen j m e k x y nothing q h = tt
+holds-seen j m e k x y clash q h = h
+holds-seen j m e k x y (bound v) q h =
+    subst T (sym (across m k v (x y (side-end m k)))) (subst (λ z. T (meets k v z)) (shown-is (here j e y) k (side m x y k) (quiet-here (here j e y) k v q)) h)
 
 -- What a rule gives on windows holds of every legal schedule in them. (Where a window had two signs, rules 5 and 11 would not be sound, and cover would not tell deliveries: hence inside the widest.)
 pub finding-sound : (r : Rule) (j : Job) (W : Windows) (p : Schedule) (e y : ℕ) → Sane j → Inside (events j) (widest j) W → Legal j W p → e < subjects r j → y < events j → T (target-fits r j e y) → Holds (value p) (own-end r) y (finding r j W e y)
@@ -227,8 +240,8 @@ finding-sound lag-lower j W p g y sane signs h l m t =
     let d : T (leZ (W (lag-a j g) t-min -ℤ lag-d j g) (p .time (lag-b j g))) = omega (ints, neg-law (lag-d j g), neg-law (p .time (lag-b j g))) in
     rw (eqb→eq y (lag-b j g) t) d
 finding-sound (reservoir m b f) j W p e y sane signs h l k t =
-    holds-seen j m e (family-end f) (value p) y (family-rule f (view j m b e) (seen j m e W) y)
-    (family-sound (view j m b e) (seen j m e W) (seen-point j m e p) (seen-inside j m e (h .within)) (legal-low m b e (inside-trans signs (h .within)) h) l (seen-signed j m e (signed-within signs)) f y k (fits-aims m b f j e y t))
+    holds-seen j m e (family-end f) (value p) y (family-rule f (view j m b e) (seen j m e W) y) (family-quiet j m e (view j m b e) W y f)
+    (family-sound (view j m b e) (seen j m e W) (seen-point j m e p) (seen-inside j m e (h .within)) (legal-low m b e (sane .cage-real e l) (inside-trans signs (h .within)) h) l (seen-signed j m e (signed-within signs)) f y k (fits-aims m b f j e y t))
 
 -- ---- effects
 

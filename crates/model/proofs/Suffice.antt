@@ -9,11 +9,11 @@ use lib.IntN.{ℤ, pos, negℤ, _+ℤ_, _-ℤ_}
 use lib.Signed.{leZ, ltZ, _<ℤ_}
 use Rattle.integers.specs.Range.{eqZ}
 use Rattle.integers.proofs.Linear.{ints, add-law}
-use Rattle.integers.proofs.Tests.{is-true, is-false, and-in}
+use Rattle.integers.proofs.Tests.{is-true, is-false, and-out, and-in}
 use Rattle.model.specs.Job.{End, t-min, t-max, h-min, h-max, opposite, meets, Windows, widest, Job, lags, lag-a, lag-b, lag-d, events}
 use Rattle.model.specs.Standing.{Sane, Standing}
-use Rattle.model.specs.View.{side-value, side-end, side, View, view, seen}
-use Rattle.model.specs.Levels.{most, e-min, e-max, stands}
+use Rattle.model.specs.View.{side-value, side-end, side, View, view, seen, here}
+use Rattle.model.specs.Levels.{most, e-min, e-max, stands, place}
 use Rattle.model.specs.Rules.{Finding, clash, bound, given-if, time-rule, targeted, Family, level, time, height, Rule, lag-upper, lag-lower, reservoir, rule, family-rule, family-end, side-finding, finding, own-end, Effect, idle, narrows, fails, effect, failed, subjects, target-fits}
 use Rattle.model.specs.Facts.{cites, says, latest, quotes-top, family-cites, family-says, lag-cites, quotes, quoted, drops}
 use Rattle.model.specs.Slips.{number, premise-list, concluded-kind, concluded-value, explanation}
@@ -23,9 +23,9 @@ use Rattle.model.specs.Reader.{has-bound, kind-fits, premises-fit, names
 use Rattle.model.proofs.Order.{meets-refl, meets-trans, opposite-meets, narrowed-in, inside-narrowed, narrowed-true}
 use Rattle.model.proofs.Levels.{most-weaker, signed-within}
 use Rattle.model.proofs.Time.{time-waits, waits-most, below-time, time-never-fails}
-use Rattle.model.proofs.Sides.{seen-inside, seen-times, seen-heights, seen-signed}
+use Rattle.model.proofs.Sides.{seen-inside, seen-times, seen-heights, seen-signed, amount, shown-is}
 use Rattle.model.proofs.Table.{narrows-bound}
-use Rattle.model.proofs.Effects.{fails-past, past-fails, effect-given, across, side-effect, effect-side, failed-side, strict-side, aims, fits-aims}
+use Rattle.model.proofs.Effects.{fails-past, past-fails, effect-given, across, side-effect, failed-side, strict-side, aims, fits-aims, Quiet, family-quiet, target-here, effect-seen}
 use Rattle.model.proofs.Premises.{Keeps, list-fits, list-true, true-list, event-fits}
 use Rattle.model.proofs.Support.{Opened, Grounds, cites-true, amount-kept, most-backed, opened-wider, targets-backed, needs-backed}
 
@@ -116,10 +116,27 @@ module _ (n : ℕ) (c : ℕ → End → Bool) (v : ℕ → End → ℤ) (x : Win
   keeps-out true h y l h-min t = subst T (sym (across true h-max (v y h-max) (x y h-min))) (h y l h-max t)
   keeps-out true h y l h-max t = subst T (sym (across true h-min (v y h-min) (x y h-max))) (h y l h-min t)
 
-agrees-side : (m : Bool) (k : End) (X : Windows) (y : ℕ) (x : Effect) (f : Finding) → agrees (side-end m k) X y (side-effect m k x) (side-finding m k f) ≡ agrees k (side m X) y x f
-agrees-side m k X y idle f = refl
-agrees-side m k X y (narrows v) f = strict-side m k v f
-agrees-side m k X y fails f = ap failed (effect-side m k X y f) ∙ failed-side m k (effect k (side m X) y f)
+-- An amount that is quoted is of e's cage.
+cited-here : (f : Family) (j : Job) (m : Bool) (E : View) (W : Windows) (e y : ℕ) (x : Effect) (z : ℕ) (k : End) → T (family-cites f E (seen j m e W) y x z k) → T (amount k) → T (here j e z)
+cited-here f j m E W e y x z t-min t a = absurd a
+cited-here f j m E W e y x z t-max t a = absurd a
+cited-here f j m E W e y x z h-min t a = absurd t
+cited-here f j m E W e y x z h-max t a =
+    let p = place E (seen j m e W) (e-min E (seen j m e W)) (latest f (e-max E (seen j m e W)) x) z in
+    target-here p (here j e z) (side m W z h-max) (and-out (not (drops f x y z)) (targeted p (seen j m e W z h-max)) t .1)
+
+-- Ends quoted, of windows and as they are seen.
+module _ (j : Job) (m : Bool) (e n : ℕ) (c : ℕ → End → Bool) (v : ℕ → End → ℤ) (x : Windows) (own : (z : ℕ) (k : End) → T (c z k) → T (amount k) → T (here j e z)) where
+  seen-in : Keeps n (λ z k. c z (side-end m k)) (λ z k. side-value m k (v z (side-end m k))) x → Keeps n c v (seen j m e x)
+  seen-in h y l k t = rw (shown-is (here j e y) k (side m x y k) (own y k t)) (keeps-in n c v x m h y l k t)
+
+  seen-out : Keeps n c v (seen j m e x) → Keeps n (λ z k. c z (side-end m k)) (λ z k. side-value m k (v z (side-end m k))) x
+  seen-out h = keeps-out n c v x m (λ y l k t. rw (shown-is (here j e y) k (side m x y k) (own y k t)) at (h y l k t))
+
+agrees-seen : (j : Job) (m : Bool) (e : ℕ) (k : End) (X : Windows) (y : ℕ) (x : Effect) (f : Finding) → Quiet (here j e y) k f → agrees (side-end m k) X y (side-effect m k x) (side-finding m k f) ≡ agrees k (seen j m e X) y x f
+agrees-seen j m e k X y idle f q = refl
+agrees-seen j m e k X y (narrows v) f q = strict-side m k v f
+agrees-seen j m e k X y fails f q = ap failed (effect-seen j m e k X y f q) ∙ failed-side m k (effect k (seen j m e X) y f)
 
 -- What is quoted does not depend on the side that the effect is told on.
 latest-side : (f : Family) (m : Bool) (t : ℤ) (x : Effect) → latest f t (side-effect m (family-end f) x) ≡ latest f t x
@@ -167,11 +184,11 @@ module _ (j : Job) (m w : Bool) (f : Family) {W X : Windows} (o : Opened (events
       let t = family-end f in
       let g = family-rule f E (seen j m e W) y in
       let z = effect t (seen j m e W) y g in
-      let p : x ≡ side-effect m t z = q ∙ effect-side m t W y g in
-      let h = subst (λ x. Keeps (events j) (family-cites f E (seen j m e W) y x) (family-says f E (seen j m e W) x) (seen j m e X)) p (keeps-in (events j) (family-cites f E (seen j m e W) y x) (family-says f E (seen j m e W) x) X m k) in
+      let p : x ≡ side-effect m t z = q ∙ effect-seen j m e t W y g (family-quiet j m e E W y f) in
+      let h = subst (λ x. Keeps (events j) (family-cites f E (seen j m e W) y x) (family-says f E (seen j m e W) x) (seen j m e X)) p (seen-in j m e (events j) (family-cites f E (seen j m e W) y x) (family-says f E (seen j m e W) x) X (cited-here f j m E W e y x) k) in
       let a = family-agrees E (seen-opened j m e o) l y b f z d refl (λ r. i (p ∙ ap (side-effect m t) r)) (quoted-side f m E (seen j m e W) (seen j m e X) y z h) in
       subst (λ x. T (agrees (side-end m t) X y x (side-finding m t (family-rule f E (seen j m e X) y)))) (sym p)
-      (subst T (sym (agrees-side m t X y z (family-rule f E (seen j m e X) y))) a)
+      (subst T (sym (agrees-seen j m e t X y z (family-rule f E (seen j m e X) y) (family-quiet j m e E X y f))) a)
 
 -- ---- lags
 
@@ -197,7 +214,7 @@ unfolding quotes quoted
 rule-true lag-upper j W e y x = λ z l k t. meets-refl k (W z k)
 rule-true lag-lower j W e y x = λ z l k t. meets-refl k (W z k)
 rule-true (reservoir m b f) j W e y x =
-    keeps-out (events j) (family-cites f (view j m b e) (seen j m e W) y x) (family-says f (view j m b e) (seen j m e W) x) W m (family-true f (view j m b e) (seen j m e W) y x)
+    seen-out j m e (events j) (family-cites f (view j m b e) (seen j m e W) y x) (family-says f (view j m b e) (seen j m e W) x) W (cited-here f j m (view j m b e) W e y x) (family-true f (view j m b e) (seen j m e W) y x)
 
 -- Question 16.
 rule-agrees : (r : Rule) (j : Job) (W X : Windows) (e y : ℕ) (x : Effect) → Sane j → Opened (events j) W X → e < subjects r j → y < events j → T (target-fits r j e y) →

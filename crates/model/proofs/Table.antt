@@ -35,7 +35,7 @@ slot-other : (y z : ℕ) (k l : End) → (word l ≡ word k → z ≡ y → ⊥)
 slot-other y z k l n e = n (omega (arith, word-small k, word-small l)) (omega (arith, word-small k, word-small l))
 
 -- An event's slots lie in its table.
-pub slot-inside : (n y : ℕ) (k : End) → y < n → slot y k < 4 * n
+pub slot-inside : (n y : ℕ) (k : End) → y < n → slot y k < 5 * n
 slot-inside n y k l = omega (arith, word-small k)
 
 -- The windows of a table with one word stored: v at (y, k), as before elsewhere.
@@ -116,7 +116,7 @@ module _ (j : Job) (W : Windows) (std : Standing j W) (y : ℕ) (event : y < eve
   }
 
 -- The same of a table, from the effect that a rule has on it.
-pub standing-narrow : (j : Job) (table : List ℤ) (y : ℕ) (k : End) (f : Finding) (v : ℤ) → length table ≡ 4 * events j → y < events j →
+pub standing-narrow : (j : Job) (table : List ℤ) (y : ℕ) (k : End) (f : Finding) (v : ℤ) → length table ≡ 5 * events j → y < events j →
     Standing j (windows table) → effect k (windows table) y f ≡ narrows v → Standing j (windows (set table (slot y k) v))
 standing-narrow j table y k f v long event std e =
     let n = narrows-bound k (windows table) y f v e .1 in

@@ -113,12 +113,12 @@ narrowings-open (x ∷ xs) n = rw (n .0) (narrowings-open xs (n .1))
 -- ---- the windows after a slip
 
 -- A slip of the planner keeps the table whole and its windows standing.
-pub wrote-standing : (j : Job) (table : List ℤ) (x : Explanation) → length table ≡ 4 * events j → Standing j (windows table) → Wrote j table x
-    → (length (applied table x) ≡ 4 * events j) × Standing j (windows (applied table x))
+pub wrote-standing : (j : Job) (table : List ℤ) (x : Explanation) → length table ≡ 5 * events j → Standing j (windows table) → Wrote j table x
+    → (length (applied table x) ≡ 5 * events j) × Standing j (windows (applied table x))
 wrote-standing j table x long std w = rw (w .slip-is) (go (w .outcome) (w .outcome-is) (w .busy))
   where
     go : (o : Effect) → o ≡ effect (own-end (rule (w .r))) (windows table) (w .y) (finding (rule (w .r)) j (windows table) (w .e) (w .y)) → (o ≡ idle → ⊥)
-        → (length (applied table (explanation (w .r) j (windows table) (w .e) (w .y) o)) ≡ 4 * events j)
+        → (length (applied table (explanation (w .r) j (windows table) (w .e) (w .y) o)) ≡ 5 * events j)
         × Standing j (windows (applied table (explanation (w .r) j (windows table) (w .e) (w .y) o)))
     go idle is busy = absurd (busy refl)
     go (narrows v) is busy =

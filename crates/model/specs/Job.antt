@@ -3,7 +3,7 @@
 use mathlib.Core.Bool.{Bool, true, false, cond, _&&_}
 use mathlib.Core.List.{List}
 use Prim.Native.Nat.{ℕ, _+_, _*_, _/_, _<_}
-use lib.Dec.{T}
+use lib.Dec.{T, eqb}
 use lib.IntN.{ℤ, pos, negsuc, natAbs, _+ℤ_, _-ℤ_}
 use lib.ListN.{getD, length}
 use lib.Signed.{leZ, ltZ, _≤ℤ_}
@@ -47,7 +47,7 @@ consumes h = ltZ h (pos 0)
 
 -- ---- tables
 
--- The word of an event's four that holds an end.
+-- The word of an event's five that holds an end.
 abbrev pub word : End → ℕ
 word t-min = 0
 word t-max = 1
@@ -55,9 +55,9 @@ word h-min = 2
 word h-max = 3
 
 abbrev pub slot : ℕ → End → ℕ
-slot y k = 4 * y + word k
+slot y k = 5 * y + word k
 
--- The window table: 4 words an event, t_min, t_max, h_min, h_max.
+-- The window table: 5 words an event, t_min, t_max, h_min, h_max and its cage.
 unfoldable pub windows : List ℤ → Windows
 windows table y k = getD table (slot y k) (pos 0)
 
@@ -72,25 +72,42 @@ pub record Reservoir : Type 0 where
 abbrev pub counts-later : Reservoir → ℤ → Bool
 counts-later c h = eqZ (c .cover) (pos 0) && produces h
 
--- The job: the words of a call as they are sent: horizon H, the reservoir, the window table, the lag table. Every job is a call's.
--- What a call never changes, as the number of events, is read off the job; where its windows stand is told beside it.
+-- The job: the words of a call as they are sent: horizon H, the cage table, the window table, the lag table. Every job is a call's.
+-- What a call never changes, as the number of events and each event's cage, is read off the job; where its windows stand is told beside it.
 pub record Job : Type 0 where
   pub horizon : ℤ
-  pub reservoir : Reservoir
+  pub cage-table : List ℤ
   pub window-table : List ℤ
   pub lag-table : List ℤ
 
-abbrev pub job : ℤ → ℤ → ℤ → ℤ → ℤ → List ℤ → List ℤ → Job
-job h low high q cover table lags =
+abbrev pub events : Job → ℕ
+events j = length (j .window-table) / 5
+
+-- The cage table: 4 words a cage, Lmin, Lmax, Q, cover.
+abbrev pub cage-at : List ℤ → ℕ → Reservoir
+cage-at ws c =
     record {
-      horizon = h;
-      reservoir = record { min-level = low; max-level = high; initial = q; cover = cover };
-      window-table = table;
-      lag-table = lags;
+      min-level = getD ws (4 * c) (pos 0);
+      max-level = getD ws (4 * c + 1) (pos 0);
+      initial = getD ws (4 * c + 2) (pos 0);
+      cover = getD ws (4 * c + 3) (pos 0);
     }
 
-abbrev pub events : Job → ℕ
-events j = length (j .window-table) / 4
+abbrev pub cages : Job → ℕ
+cages j = length (j .cage-table) / 4
+
+abbrev pub cage : Job → ℕ → Reservoir
+cage j c = cage-at (j .cage-table) c
+
+-- An event's cage, by its number in the window table and itself.
+abbrev pub cage-word : List ℤ → ℕ → ℤ
+cage-word table y = getD table (5 * y + 4) (pos 0)
+
+abbrev pub cage-of : Job → ℕ → ℕ
+cage-of j y = natAbs (cage-word (j .window-table) y)
+
+abbrev pub home : Job → ℕ → Reservoir
+home j y = cage j (cage-of j y)
 
 -- The windows sent in.
 abbrev pub sent : Job → Windows
@@ -129,17 +146,21 @@ value p y h-max = p .height y
 pub record Inside (n : ℕ) (W x : Windows) : Type 0 where
   pub inside : (y : ℕ) → y < n → (k : End) → T (meets k (W y k) (x y k))
 
--- The stock at the moment m: Q + (sum of h(y) with t(y) ≤ m), where those that count later (s) count only with t(y) < m.
-unfoldable pub stock : (ℕ → Bool) → Job → Schedule → ℤ → ℤ
-stock s j p m =
-    j .reservoir .initial +ℤ sum (events j) (λ y. cond (ahead (s y) (p .time y) m) (p .height y) (pos 0))
+-- What y brings to the cage c: its amount, if c is its cage.
+abbrev pub brings : Job → ℕ → Schedule → ℕ → ℤ
+brings j c p y = cond (eqb (cage-of j y) c) (p .height y) (pos 0)
 
--- Legal in the windows W: inside them, all lags hold, and both limits at every whole moment, earlier than the first event too. The low limit is by cover; for the high limit no event counts later.
+-- The stock of the cage c at the moment m: Q + (sum of h(y) of its events with t(y) ≤ m), where those that count later (s) count only with t(y) < m.
+unfoldable pub stock : (ℕ → Bool) → Job → ℕ → Schedule → ℤ → ℤ
+stock s j c p m =
+    cage j c .initial +ℤ sum (events j) (λ y. cond (ahead (s y) (p .time y) m) (brings j c p y) (pos 0))
+
+-- Legal in the windows W: inside them, all lags hold, and of every cage both limits at every whole moment, earlier than the first event too. The low limit is by cover; for the high limit no event counts later.
 pub record Legal (j : Job) (W : Windows) (p : Schedule) : Type 0 where
   pub within : Inside (events j) W (value p)
   pub lagged : (g : ℕ) → g < lags j → (p .time (lag-a j g) -ℤ p .time (lag-b j g)) ≤ℤ lag-d j g
-  pub above-min : (m : ℤ) → j .reservoir .min-level ≤ℤ stock (λ y. counts-later (j .reservoir) (p .height y)) j p m
-  pub below-max : (m : ℤ) → stock (λ y. false) j p m ≤ℤ j .reservoir .max-level
+  pub above-min : (c : ℕ) → c < cages j → (m : ℤ) → cage j c .min-level ≤ℤ stock (λ y. counts-later (cage j c) (p .height y)) j c p m
+  pub below-max : (c : ℕ) → c < cages j → (m : ℤ) → stock (λ y. false) j c p m ≤ℤ cage j c .max-level
 
 -- The widest windows: 0..H; 1..9,999, −9,999..−1 or 0 for a delivery, a pull or a neutral event, of which h is an amount.
 abbrev pub widest-h-min : ℤ → ℤ

@@ -34,10 +34,10 @@ line-of (z ∷ zs) = (32 ∷ integer z) ++ line-of zs
 abbrev pub headline : List ℕ → ℕ → ℕ → List ℕ
 headline name a b = name ++ line-of (pos a ∷ pos b ∷ [])
 
--- Each event's number and four words, of the first n events.
+-- Each event's number and the four words of its windows, of the first n events; its cage is not printed.
 unfoldable pub event-lines : List ℤ → ℕ → List ℕ
 event-lines table zero = []
-event-lines table (suc y) = event-lines table y ++ numeral y ++ line-of (take 4 (drop (4 * y) table))
+event-lines table (suc y) = event-lines table y ++ numeral y ++ line-of (take 4 (drop (5 * y) table))
 
 -- The reader's "open" is not printed by the program.
 abbrev pub verdict-name : Verdict → List ℕ
@@ -50,4 +50,4 @@ verdict-name still-open = bytes "open"
 abbrev pub printed : Reply → List ℤ → List ℕ
 printed (refused number place) table = headline (bytes "refused") number place
 printed (done verdict slips rounds words) table =
-    headline (verdict-name verdict) slips rounds ++ event-lines table (length table / 4)
+    headline (verdict-name verdict) slips rounds ++ event-lines table (length table / 5)

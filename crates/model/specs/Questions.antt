@@ -7,7 +7,7 @@ use lib.IntN.{ℤ, pos, negsuc}
 use lib.ListN.{length}
 use lib.Signed.{leZ, ltZ}
 use Rattle.integers.specs.Range.{eqZ}
-use Rattle.model.specs.Job.{t-min, t-max, h-min, h-max, Windows, windows, Reservoir, Job, events, lag-word}
+use Rattle.model.specs.Job.{cage-at, cage-word, cages, t-min, t-max, h-min, h-max, Windows, windows, Reservoir, Job, events, lag-word}
 
 -- A "no" ends the call with the question's number and the place of the first event, lag or slip concerned.
 pub data Check : Type 0 where
@@ -38,6 +38,10 @@ in-range low high x = leZ low x && leZ x high
 abbrev pub horizon-right : ℤ → Bool
 horizon-right h = in-range (pos 0) (pos 20000) h
 
+-- 29. The cage words are 1 to 8 whole cages.
+abbrev pub cages-whole : List ℤ → Bool
+cages-whole ws = eqb (length ws % 4) 0 && leb 4 (length ws) && leb (length ws) 32
+
 -- 2. Lmin, Lmax, Q are each in −1,000,000..1,000,000.
 abbrev pub limit-in-range : ℤ → Bool
 limit-in-range x = in-range (negsuc 999999) (pos 1000000) x
@@ -55,7 +59,7 @@ cover-right c = in-range (pos 0) (pos 1) (c .cover)
 
 -- 4. The window table is whole events, 0 to 64.
 abbrev pub events-whole : List ℤ → Bool
-events-whole table = eqb (length table % 4) 0 && leb (length table) 256
+events-whole table = eqb (length table % 5) 0 && leb (length table) 320
 
 -- 5. 0 ≤ t_min ≤ t_max ≤ H.
 abbrev pub times-right : ℤ → Windows → ℕ → Bool
@@ -69,13 +73,17 @@ heights-right W y =
     || (leZ (pos 0) (W y h-min) && leZ (W y h-max) (pos 0)))
     && leZ (W y h-min) (W y h-max)
 
--- 7. The lag table is whole lags, 0 to 256.
-abbrev pub lags-whole : List ℤ → Bool
-lags-whole ws = eqb (length ws % 3) 0 && leb (length ws) 768
-
 -- A word that is the number of an event, of n.
 abbrev pub is-event : ℕ → ℤ → Bool
 is-event n w = leZ (pos 0) w && ltZ w (pos n)
+
+-- 30. An event's cage is one of the job's, of k.
+abbrev pub cage-right : ℕ → List ℤ → ℕ → Bool
+cage-right k table y = is-event k (cage-word table y)
+
+-- 7. The lag table is whole lags, 0 to 256.
+abbrev pub lags-whole : List ℤ → Bool
+lags-whole ws = eqb (length ws % 3) 0 && leb (length ws) 768
 
 -- 8. a and b are events, of n.
 abbrev pub lag-events : ℕ → List ℤ → ℕ → Bool
@@ -93,19 +101,24 @@ lag-in-range ws g = in-range (negsuc 19999) (pos 20000) (lag-word ws g 2)
 abbrev pub room-right : ℕ → Bool
 room-right room = leb 3 room && leb room 1000000
 
--- ---- the questions in order; each goes to all events or lags before the next
+-- ---- the questions in order; each goes to all cages, events or lags before the next
 
--- 1 to 3 and 22, of the horizon and the cage.
-abbrev pub cage-questions : ℤ → Reservoir → Check
-cage-questions h c =
-    ask 1 (horizon-right h) then ask 2 (limits-right c) then ask 3 (stock-right c) then ask 22 (cover-right c)
+-- 1, 29, 2, 3 and 22, of the horizon and the cage table.
+abbrev pub cage-questions : ℤ → List ℤ → Check
+cage-questions h ws =
+    ask 1 (horizon-right h)
+    then ask 29 (cages-whole ws)
+    then each 2 (λ c. limits-right (cage-at ws c)) 0 (length ws / 4)
+    then each 3 (λ c. stock-right (cage-at ws c)) 0 (length ws / 4)
+    then each 22 (λ c. cover-right (cage-at ws c)) 0 (length ws / 4)
 
--- 4 to 6, of the window table, with the horizon.
-abbrev pub window-questions : ℤ → List ℤ → Check
-window-questions h table =
+-- 4 to 6 and 30, of the window table, with the horizon and the number of cages.
+abbrev pub window-questions : ℤ → ℕ → List ℤ → Check
+window-questions h k table =
     ask 4 (events-whole table)
-    then each 5 (times-right h (windows table)) 0 (length table / 4)
-    then each 6 (heights-right (windows table)) 0 (length table / 4)
+    then each 5 (times-right h (windows table)) 0 (length table / 5)
+    then each 6 (heights-right (windows table)) 0 (length table / 5)
+    then each 30 (cage-right k table) 0 (length table / 5)
 
 -- 7 to 10, of the lag table of n events.
 abbrev pub lag-questions : ℕ → List ℤ → Check
@@ -118,8 +131,8 @@ lag-questions n ws =
 -- The job's own questions.
 unfoldable pub own-questions : Job → Check
 own-questions j =
-    cage-questions (j .horizon) (j .reservoir)
-    then window-questions (j .horizon) (j .window-table)
+    cage-questions (j .horizon) (j .cage-table)
+    then window-questions (j .horizon) (cages j) (j .window-table)
     then lag-questions (events j) (j .lag-table)
 
 -- Questions 1 to 11: the job's own, then of the length of its slip buffer.

@@ -4,7 +4,7 @@ use Prim.Native.Nat.{ℕ, _≤_, _<_}
 use lib.IntN.{pos, natAbs, ℤ}
 use lib.Signed.{_≤ℤ_}
 use Rattle.integers.specs.Range.{Within}
-use Rattle.model.specs.Job.{End, t-min, t-max, h-min, h-max, Windows, Reservoir, Job, events, lags, lag-word, Inside, widest}
+use Rattle.model.specs.Job.{End, t-min, t-max, h-min, h-max, Windows, Reservoir, Job, events, lags, lag-word, Inside, widest, cages, cage, cage-word, cage-of}
 
 -- A cage that question 2 lets pass.
 pub record SaneCage (c : Reservoir) : Type 0 where
@@ -24,7 +24,11 @@ pub record SaneLag (n : ℕ) (ws : List ℤ) (g : ℕ) : Type 0 where
 pub record Sane (j : Job) : Type 0 where
   pub horizon-low : pos 0 ≤ℤ j .horizon
   pub horizon-high : j .horizon ≤ℤ pos 20000
-  pub cage : SaneCage (j .reservoir)
+  pub some-cage : 1 ≤ cages j
+  pub few-cages : cages j ≤ 8
+  pub cage : (c : ℕ) → c < cages j → SaneCage (cage j c)
+  pub cage-sign : (y : ℕ) → y < events j → pos 0 ≤ℤ cage-word (j .window-table) y
+  pub cage-real : (y : ℕ) → y < events j → cage-of j y < cages j
   pub few-events : events j ≤ 64
   pub few-lags : lags j ≤ 256
   pub lag : (g : ℕ) → g < lags j → SaneLag (events j) (j .lag-table) g

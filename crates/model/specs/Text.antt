@@ -9,7 +9,7 @@ use Prim.Native.String
 use lib.Dec.{eqb, leb}
 use lib.IntN.{ℤ, pos, negsuc, negℤ, natAbs}
 use lib.ListN.{length, take, drop}
-use Rattle.model.specs.Job.{Job, job}
+use Rattle.model.specs.Job.{Job}
 use Rattle.model.specs.Questions.{in-range}
 
 -- What a text, or a part of one, says.
@@ -91,10 +91,10 @@ abbrev pub next-number : Part ℤ
 next-number [] = malformed
 next-number (z ∷ ns) = parsed (z, ns)
 
--- A number in 0..most.
-abbrev pub count-to : ℕ → Part ℕ
-count-to most [] = malformed
-count-to most (z ∷ ns) = cond (in-range (pos 0) (pos most) z) (parsed (natAbs z, ns)) malformed
+-- A number in least..most.
+abbrev pub count-in : ℕ → ℕ → Part ℕ
+count-in least most [] = malformed
+count-in least most (z ∷ ns) = cond (in-range (pos least) (pos most) z) (parsed (natAbs z, ns)) malformed
 
 abbrev pub next-words : ℕ → Part (List ℤ)
 next-words k ns = cond (leb k (length ns)) (parsed (take k ns, drop k ns)) malformed
@@ -104,19 +104,17 @@ abbrev pub at-end : {A : Type 0} → A → List ℤ → Parsed A
 at-end a [] = parsed a
 at-end a (z ∷ ns) = malformed
 
--- The job that numbers say: H Lmin Lmax Q cover n m, then n events, m lags.
+-- The job that numbers say: H, the number of cages and their words, n m, then n events, m lags.
 unfoldable pub job-of : List ℤ → Parsed Job
 job-of = do
   h ← next-number
-  low ← next-number
-  high ← next-number
-  q ← next-number
-  cover ← next-number
-  n ← count-to 64
-  m ← count-to 256
-  windows ← next-words (4 * n)
+  c ← count-in 1 8
+  cages ← next-words (4 * c)
+  n ← count-in 0 64
+  m ← count-in 0 256
+  windows ← next-words (5 * n)
   lags ← next-words (3 * m)
-  at-end (job h low high q cover windows lags)
+  at-end (record { horizon = h; cage-table = cages; window-table = windows; lag-table = lags })
 
 -- The job that a text says.
 unfoldable pub job-text : List ℕ → Parsed Job

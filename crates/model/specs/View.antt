@@ -1,8 +1,9 @@
--- Document 01, "The fourteen rules": what a rule at an event sees. The mirror, before and by, the limit and the opening stock are all said here; levels, rules and facts read nothing else.
-use mathlib.Core.Bool.{Bool, true, false, not, _&&_, _||_}
+-- Document 01, "The fourteen rules": what a rule at an event sees. The mirror, before and by, the limit and the opening stock of the event's cage, and which events are in it are all said here; levels, rules and facts read nothing else.
+use mathlib.Core.Bool.{Bool, true, false, not, cond, _&&_, _||_}
 use Prim.Native.Nat.{ℕ}
-use lib.IntN.{ℤ, negℤ}
-use Rattle.model.specs.Job.{End, t-min, t-max, h-min, h-max, Windows, Reservoir, Job, events, counts-later, sent}
+use lib.Dec.{eqb}
+use lib.IntN.{ℤ, pos, negℤ}
+use Rattle.model.specs.Job.{End, t-min, t-max, h-min, h-max, Windows, Reservoir, Job, events, counts-later, sent, home, cage-of}
 
 -- ---- the mirror
 
@@ -51,10 +52,22 @@ view-of n c h m b e =
       before = λ y. b || (not m && counts-later c (h y));
     }
 
--- In a job: what is a delivery is read off the amounts sent in; it does not change in a call.
+-- In a job: the cage is e's; what is a delivery is read off the amounts sent in, and does not change in a call.
 abbrev pub view : Job → Bool → Bool → ℕ → View
-view j m b e = view-of (events j) (j .reservoir) (λ y. sent j y h-max) m b e
+view j m b e = view-of (events j) (home j e) (λ y. sent j y h-max) m b e
+
+-- ---- what is seen
+
+-- An event of another cage is seen as neutral: so it counts nowhere, gives no fact and is no target.
+abbrev pub here : Job → ℕ → ℕ → Bool
+here j e y = eqb (cage-of j y) (cage-of j e)
+
+abbrev pub shown : Bool → End → ℤ → ℤ
+shown b t-min v = v
+shown b t-max v = v
+shown b h-min v = cond b v (pos 0)
+shown b h-max v = cond b v (pos 0)
 
 -- The windows as a rule of side m at e sees them.
 abbrev pub seen : Job → Bool → ℕ → Windows → Windows
-seen j m e W = side m W
+seen j m e W y k = shown (here j e y) k (side m W y k)

@@ -1,4 +1,5 @@
--- The papers' cases with P (document 01: K1 to K10; document 02: cover): one listing of inputs and expected words, K1's text and what is printed of it too, one statement that the definitions give them, proved by computation.
+-- The papers' cases with P (document 01: K1 to K10; document 02: cover, cages): one listing of inputs and expected words, K1's text and what is printed of it too, one statement that the definitions give them, proved by computation.
+-- By its name it is checked before all other proofs: a definition that is changed is told first by the words that it gives.
 -- Assumes nothing.
 use mathlib.Core.Path.{_≡_, refl}
 use mathlib.Core.List.{List, [], _∷_}
@@ -7,7 +8,7 @@ use Prim.Native.String.{String}
 use lib.IntN.{ℤ, pos, negℤ}
 use lib.ListN.{take, length}
 use Rattle.integers.specs.Sum.{sum}
-use Rattle.model.specs.Job.{windows, job, Job}
+use Rattle.model.specs.Job.{windows, Job}
 use Rattle.model.specs.Levels.{most-in, sure-part}
 use Rattle.model.specs.Rules.{earliest, finding}
 use Rattle.model.specs.Facts.{any, quotes, quoted}
@@ -54,9 +55,13 @@ abbrev pub blank : ℕ → List ℤ
 blank zero = []
 blank (suc n) = pos 77 ∷ blank n
 
--- "H 100, Lmin 0, Lmax 10, no lags unless said", cover 1: Q, the window table, the lag table.
+-- Horizon, cage table, window table, lag table.
+abbrev pub job : ℤ → List ℤ → List ℤ → List ℤ → Job
+job h cages table lags = record { horizon = h; cage-table = cages; window-table = table; lag-table = lags }
+
+-- "H 100, Lmin 0, Lmax 10, no lags unless said", one cage, cover 1: Q, the window table, the lag table.
 abbrev pub standard : ℤ → List ℤ → List ℤ → Job
-standard q table lags = job (pos 100) (pos 0) (pos 10) q (pos 1) table lags
+standard q table lags = job (pos 100) (pos 0 ∷ pos 10 ∷ q ∷ pos 1 ∷ []) table lags
 
 -- ---- the cases
 
@@ -65,10 +70,10 @@ abbrev pub k1 : Case
 k1 =
     record {
       call = planner;
-      job = standard (pos 0) (pos 5 ∷ pos 40 ∷ pos 6 ∷ pos 6 ∷ pos 0 ∷ pos 30 ∷ neg 4 ∷ neg 4 ∷ []) [];
+      job = standard (pos 0) (pos 5 ∷ pos 40 ∷ pos 6 ∷ pos 6 ∷ pos 0 ∷ pos 0 ∷ pos 30 ∷ neg 4 ∷ neg 4 ∷ pos 0 ∷ []) [];
       buffer = blank 18;
       reply = done settled 1 2 16;
-      table-left = pos 5 ∷ pos 40 ∷ pos 6 ∷ pos 6 ∷ pos 5 ∷ pos 30 ∷ neg 4 ∷ neg 4 ∷ [];
+      table-left = pos 5 ∷ pos 40 ∷ pos 6 ∷ pos 6 ∷ pos 0 ∷ pos 5 ∷ pos 30 ∷ neg 4 ∷ neg 4 ∷ pos 0 ∷ [];
       buffer-left = pos 10 ∷ pos 1 ∷ pos 1 ∷ pos 1 ∷ pos 5 ∷ pos 2 ∷ pos 0 ∷ pos 1 ∷ pos 5 ∷ pos 1 ∷ pos 4 ∷ neg 4 ∷ pos 13 ∷ pos 1 ∷ pos 0 ∷ pos 4207 ∷ pos 77 ∷ pos 77 ∷ [];
       printed = pos 10 ∷ pos 1 ∷ pos 1 ∷ pos 1 ∷ pos 5 ∷ pos 2 ∷ pos 0 ∷ pos 1 ∷ pos 5 ∷ pos 1 ∷ pos 4 ∷ neg 4 ∷ pos 13 ∷ pos 1 ∷ pos 0 ∷ pos 4207 ∷ [];
     }
@@ -78,10 +83,10 @@ abbrev pub k2 : Case
 k2 =
     record {
       call = planner;
-      job = standard (pos 0) (pos 5 ∷ pos 40 ∷ pos 6 ∷ pos 6 ∷ pos 0 ∷ pos 30 ∷ neg 4 ∷ neg 4 ∷ []) [];
+      job = standard (pos 0) (pos 5 ∷ pos 40 ∷ pos 6 ∷ pos 6 ∷ pos 0 ∷ pos 0 ∷ pos 30 ∷ neg 4 ∷ neg 4 ∷ pos 0 ∷ []) [];
       buffer = blank 15;
       reply = done stopped 0 1 3;
-      table-left = pos 5 ∷ pos 40 ∷ pos 6 ∷ pos 6 ∷ pos 0 ∷ pos 30 ∷ neg 4 ∷ neg 4 ∷ [];
+      table-left = pos 5 ∷ pos 40 ∷ pos 6 ∷ pos 6 ∷ pos 0 ∷ pos 0 ∷ pos 30 ∷ neg 4 ∷ neg 4 ∷ pos 0 ∷ [];
       buffer-left = pos 0 ∷ pos 0 ∷ pos 4207 ∷ blank 12;
       printed = pos 0 ∷ pos 0 ∷ pos 4207 ∷ [];
     }
@@ -104,10 +109,10 @@ abbrev pub k4 : Case
 k4 =
     record {
       call = planner;
-      job = standard (pos 3) (pos 0 ∷ pos 30 ∷ neg 4 ∷ neg 4 ∷ []) [];
+      job = standard (pos 3) (pos 0 ∷ pos 30 ∷ neg 4 ∷ neg 4 ∷ pos 0 ∷ []) [];
       buffer = blank 16;
       reply = done conflict 1 1 13;
-      table-left = pos 0 ∷ pos 30 ∷ neg 4 ∷ neg 4 ∷ [];
+      table-left = pos 0 ∷ pos 30 ∷ neg 4 ∷ neg 4 ∷ pos 0 ∷ [];
       buffer-left = pos 9 ∷ pos 0 ∷ pos 0 ∷ pos 0 ∷ pos 0 ∷ pos 1 ∷ pos 0 ∷ pos 4 ∷ neg 4 ∷ pos 10 ∷ pos 1 ∷ pos 0 ∷ pos 4207 ∷ blank 3;
       printed = pos 9 ∷ pos 0 ∷ pos 0 ∷ pos 0 ∷ pos 0 ∷ pos 1 ∷ pos 0 ∷ pos 4 ∷ neg 4 ∷ pos 10 ∷ [];
     }
@@ -117,10 +122,10 @@ abbrev pub k4-settled : Case
 k4-settled =
     record {
       call = planner;
-      job = standard (pos 4) (pos 0 ∷ pos 30 ∷ neg 4 ∷ neg 4 ∷ []) [];
+      job = standard (pos 4) (pos 0 ∷ pos 30 ∷ neg 4 ∷ neg 4 ∷ pos 0 ∷ []) [];
       buffer = blank 16;
       reply = done settled 0 1 3;
-      table-left = pos 0 ∷ pos 30 ∷ neg 4 ∷ neg 4 ∷ [];
+      table-left = pos 0 ∷ pos 30 ∷ neg 4 ∷ neg 4 ∷ pos 0 ∷ [];
       buffer-left = pos 0 ∷ pos 0 ∷ pos 4207 ∷ blank 13;
       printed = [];
     }
@@ -130,10 +135,10 @@ abbrev pub k5 : Case
 k5 =
     record {
       call = planner;
-      job = standard (pos 5) (pos 0 ∷ pos 30 ∷ neg 9 ∷ neg 2 ∷ []) [];
+      job = standard (pos 5) (pos 0 ∷ pos 30 ∷ neg 9 ∷ neg 2 ∷ pos 0 ∷ []) [];
       buffer = blank 16;
       reply = done settled 1 2 10;
-      table-left = pos 0 ∷ pos 30 ∷ neg 5 ∷ neg 2 ∷ [];
+      table-left = pos 0 ∷ pos 30 ∷ neg 5 ∷ neg 2 ∷ pos 0 ∷ [];
       buffer-left = pos 11 ∷ pos 0 ∷ pos 0 ∷ pos 3 ∷ neg 5 ∷ pos 0 ∷ pos 7 ∷ pos 1 ∷ pos 0 ∷ pos 4207 ∷ blank 6;
       printed = pos 11 ∷ pos 0 ∷ pos 0 ∷ pos 3 ∷ neg 5 ∷ pos 0 ∷ pos 7 ∷ [];
     }
@@ -143,10 +148,10 @@ abbrev pub k6 : Case
 k6 =
     record {
       call = planner;
-      job = standard (pos 0) (pos 0 ∷ pos 30 ∷ pos 7 ∷ pos 20 ∷ []) [];
+      job = standard (pos 0) (pos 0 ∷ pos 30 ∷ pos 7 ∷ pos 20 ∷ pos 0 ∷ []) [];
       buffer = blank 16;
       reply = done settled 1 2 10;
-      table-left = pos 0 ∷ pos 30 ∷ pos 7 ∷ pos 10 ∷ [];
+      table-left = pos 0 ∷ pos 30 ∷ pos 7 ∷ pos 10 ∷ pos 0 ∷ [];
       buffer-left = pos 14 ∷ pos 0 ∷ pos 0 ∷ pos 4 ∷ pos 10 ∷ pos 0 ∷ pos 7 ∷ pos 1 ∷ pos 0 ∷ pos 4207 ∷ blank 6;
       printed = pos 14 ∷ pos 0 ∷ pos 0 ∷ pos 4 ∷ pos 10 ∷ pos 0 ∷ pos 7 ∷ [];
     }
@@ -156,10 +161,10 @@ abbrev pub k6-conflict : Case
 k6-conflict =
     record {
       call = planner;
-      job = standard (pos 0) (pos 0 ∷ pos 30 ∷ pos 11 ∷ pos 20 ∷ []) [];
+      job = standard (pos 0) (pos 0 ∷ pos 30 ∷ pos 11 ∷ pos 20 ∷ pos 0 ∷ []) [];
       buffer = blank 16;
       reply = done conflict 1 1 13;
-      table-left = pos 0 ∷ pos 30 ∷ pos 11 ∷ pos 20 ∷ [];
+      table-left = pos 0 ∷ pos 30 ∷ pos 11 ∷ pos 20 ∷ pos 0 ∷ [];
       buffer-left = pos 12 ∷ pos 0 ∷ pos 0 ∷ pos 0 ∷ pos 0 ∷ pos 1 ∷ pos 0 ∷ pos 3 ∷ pos 11 ∷ pos 10 ∷ pos 1 ∷ pos 0 ∷ pos 4207 ∷ blank 3;
       printed = pos 12 ∷ pos 0 ∷ pos 0 ∷ pos 0 ∷ pos 0 ∷ pos 1 ∷ pos 0 ∷ pos 3 ∷ pos 11 ∷ pos 10 ∷ [];
     }
@@ -169,10 +174,10 @@ abbrev pub k7 : Case
 k7 =
     record {
       call = planner;
-      job = standard (pos 0) (pos 7 ∷ pos 7 ∷ pos 6 ∷ pos 6 ∷ pos 7 ∷ pos 7 ∷ neg 4 ∷ neg 4 ∷ []) [];
+      job = standard (pos 0) (pos 7 ∷ pos 7 ∷ pos 6 ∷ pos 6 ∷ pos 0 ∷ pos 7 ∷ pos 7 ∷ neg 4 ∷ neg 4 ∷ pos 0 ∷ []) [];
       buffer = blank 16;
       reply = done settled 0 1 3;
-      table-left = pos 7 ∷ pos 7 ∷ pos 6 ∷ pos 6 ∷ pos 7 ∷ pos 7 ∷ neg 4 ∷ neg 4 ∷ [];
+      table-left = pos 7 ∷ pos 7 ∷ pos 6 ∷ pos 6 ∷ pos 0 ∷ pos 7 ∷ pos 7 ∷ neg 4 ∷ neg 4 ∷ pos 0 ∷ [];
       buffer-left = pos 0 ∷ pos 0 ∷ pos 4207 ∷ blank 13;
       printed = [];
     }
@@ -182,10 +187,10 @@ abbrev pub k8 : Case
 k8 =
     record {
       call = planner;
-      job = standard (pos 0) (pos 0 ∷ pos 10 ∷ pos 0 ∷ pos 0 ∷ pos 0 ∷ pos 6 ∷ pos 0 ∷ pos 0 ∷ []) (pos 0 ∷ pos 1 ∷ neg 2 ∷ []);
+      job = standard (pos 0) (pos 0 ∷ pos 10 ∷ pos 0 ∷ pos 0 ∷ pos 0 ∷ pos 0 ∷ pos 6 ∷ pos 0 ∷ pos 0 ∷ pos 0 ∷ []) (pos 0 ∷ pos 1 ∷ neg 2 ∷ []);
       buffer = blank 24;
       reply = done settled 2 2 23;
-      table-left = pos 0 ∷ pos 4 ∷ pos 0 ∷ pos 0 ∷ pos 2 ∷ pos 6 ∷ pos 0 ∷ pos 0 ∷ [];
+      table-left = pos 0 ∷ pos 4 ∷ pos 0 ∷ pos 0 ∷ pos 0 ∷ pos 2 ∷ pos 6 ∷ pos 0 ∷ pos 0 ∷ pos 0 ∷ [];
       buffer-left = pos 1 ∷ pos 0 ∷ pos 0 ∷ pos 2 ∷ pos 4 ∷ pos 1 ∷ pos 1 ∷ pos 2 ∷ pos 6 ∷ pos 10 ∷ pos 2 ∷ pos 0 ∷ pos 1 ∷ pos 1 ∷ pos 2 ∷ pos 1 ∷ pos 0 ∷ pos 1 ∷ pos 0 ∷ pos 10 ∷ pos 2 ∷ pos 10 ∷ pos 4207 ∷ pos 77 ∷ [];
       printed = pos 1 ∷ pos 0 ∷ pos 0 ∷ pos 2 ∷ pos 4 ∷ pos 1 ∷ pos 1 ∷ pos 2 ∷ pos 6 ∷ pos 10 ∷ pos 2 ∷ pos 0 ∷ pos 1 ∷ pos 1 ∷ pos 2 ∷ pos 1 ∷ pos 0 ∷ pos 1 ∷ pos 0 ∷ pos 10 ∷ [];
     }
@@ -195,10 +200,10 @@ abbrev pub k1-read : Case
 k1-read =
     record {
       call = reader;
-      job = standard (pos 0) (pos 5 ∷ pos 40 ∷ pos 6 ∷ pos 6 ∷ pos 0 ∷ pos 30 ∷ neg 4 ∷ neg 4 ∷ []) [];
+      job = standard (pos 0) (pos 5 ∷ pos 40 ∷ pos 6 ∷ pos 6 ∷ pos 0 ∷ pos 0 ∷ pos 30 ∷ neg 4 ∷ neg 4 ∷ pos 0 ∷ []) [];
       buffer = pos 10 ∷ pos 1 ∷ pos 1 ∷ pos 1 ∷ pos 5 ∷ pos 2 ∷ pos 0 ∷ pos 1 ∷ pos 5 ∷ pos 1 ∷ pos 4 ∷ neg 4 ∷ pos 13 ∷ pos 1 ∷ pos 0 ∷ pos 4207 ∷ [];
       reply = done still-open 0 0 0;
-      table-left = pos 5 ∷ pos 40 ∷ pos 6 ∷ pos 6 ∷ pos 5 ∷ pos 30 ∷ neg 4 ∷ neg 4 ∷ [];
+      table-left = pos 5 ∷ pos 40 ∷ pos 6 ∷ pos 6 ∷ pos 0 ∷ pos 5 ∷ pos 30 ∷ neg 4 ∷ neg 4 ∷ pos 0 ∷ [];
       buffer-left = pos 10 ∷ pos 1 ∷ pos 1 ∷ pos 1 ∷ pos 5 ∷ pos 2 ∷ pos 0 ∷ pos 1 ∷ pos 5 ∷ pos 1 ∷ pos 4 ∷ neg 4 ∷ pos 13 ∷ pos 1 ∷ pos 0 ∷ pos 4207 ∷ [];
       printed = [];
     }
@@ -208,10 +213,10 @@ abbrev pub k9-strict : Case
 k9-strict =
     record {
       call = reader;
-      job = standard (pos 0) (pos 5 ∷ pos 40 ∷ pos 6 ∷ pos 6 ∷ pos 0 ∷ pos 30 ∷ neg 4 ∷ neg 4 ∷ []) [];
+      job = standard (pos 0) (pos 5 ∷ pos 40 ∷ pos 6 ∷ pos 6 ∷ pos 0 ∷ pos 0 ∷ pos 30 ∷ neg 4 ∷ neg 4 ∷ pos 0 ∷ []) [];
       buffer = pos 10 ∷ pos 1 ∷ pos 1 ∷ pos 1 ∷ pos 6 ∷ pos 2 ∷ pos 0 ∷ pos 1 ∷ pos 5 ∷ pos 1 ∷ pos 4 ∷ neg 4 ∷ pos 13 ∷ pos 1 ∷ pos 0 ∷ pos 4207 ∷ [];
       reply = refused 16 0;
-      table-left = pos 5 ∷ pos 40 ∷ pos 6 ∷ pos 6 ∷ pos 0 ∷ pos 30 ∷ neg 4 ∷ neg 4 ∷ [];
+      table-left = pos 5 ∷ pos 40 ∷ pos 6 ∷ pos 6 ∷ pos 0 ∷ pos 0 ∷ pos 30 ∷ neg 4 ∷ neg 4 ∷ pos 0 ∷ [];
       buffer-left = pos 10 ∷ pos 1 ∷ pos 1 ∷ pos 1 ∷ pos 6 ∷ pos 2 ∷ pos 0 ∷ pos 1 ∷ pos 5 ∷ pos 1 ∷ pos 4 ∷ neg 4 ∷ pos 13 ∷ pos 1 ∷ pos 0 ∷ pos 4207 ∷ [];
       printed = [];
     }
@@ -221,10 +226,10 @@ abbrev pub k9-weak : Case
 k9-weak =
     record {
       call = reader;
-      job = standard (pos 0) (pos 5 ∷ pos 40 ∷ pos 6 ∷ pos 6 ∷ pos 0 ∷ pos 30 ∷ neg 4 ∷ neg 4 ∷ []) [];
+      job = standard (pos 0) (pos 5 ∷ pos 40 ∷ pos 6 ∷ pos 6 ∷ pos 0 ∷ pos 0 ∷ pos 30 ∷ neg 4 ∷ neg 4 ∷ pos 0 ∷ []) [];
       buffer = pos 10 ∷ pos 1 ∷ pos 1 ∷ pos 1 ∷ pos 4 ∷ pos 2 ∷ pos 0 ∷ pos 1 ∷ pos 5 ∷ pos 1 ∷ pos 4 ∷ neg 4 ∷ pos 13 ∷ pos 1 ∷ pos 0 ∷ pos 4207 ∷ [];
       reply = done still-open 0 0 0;
-      table-left = pos 5 ∷ pos 40 ∷ pos 6 ∷ pos 6 ∷ pos 4 ∷ pos 30 ∷ neg 4 ∷ neg 4 ∷ [];
+      table-left = pos 5 ∷ pos 40 ∷ pos 6 ∷ pos 6 ∷ pos 0 ∷ pos 4 ∷ pos 30 ∷ neg 4 ∷ neg 4 ∷ pos 0 ∷ [];
       buffer-left = pos 10 ∷ pos 1 ∷ pos 1 ∷ pos 1 ∷ pos 4 ∷ pos 2 ∷ pos 0 ∷ pos 1 ∷ pos 5 ∷ pos 1 ∷ pos 4 ∷ neg 4 ∷ pos 13 ∷ pos 1 ∷ pos 0 ∷ pos 4207 ∷ [];
       printed = [];
     }
@@ -234,10 +239,10 @@ abbrev pub k9-false : Case
 k9-false =
     record {
       call = reader;
-      job = standard (pos 0) (pos 5 ∷ pos 40 ∷ pos 6 ∷ pos 6 ∷ pos 0 ∷ pos 30 ∷ neg 4 ∷ neg 4 ∷ []) [];
+      job = standard (pos 0) (pos 5 ∷ pos 40 ∷ pos 6 ∷ pos 6 ∷ pos 0 ∷ pos 0 ∷ pos 30 ∷ neg 4 ∷ neg 4 ∷ pos 0 ∷ []) [];
       buffer = pos 10 ∷ pos 1 ∷ pos 1 ∷ pos 1 ∷ pos 5 ∷ pos 2 ∷ pos 0 ∷ pos 1 ∷ pos 6 ∷ pos 1 ∷ pos 4 ∷ neg 4 ∷ pos 13 ∷ pos 1 ∷ pos 0 ∷ pos 4207 ∷ [];
       reply = refused 15 0;
-      table-left = pos 5 ∷ pos 40 ∷ pos 6 ∷ pos 6 ∷ pos 0 ∷ pos 30 ∷ neg 4 ∷ neg 4 ∷ [];
+      table-left = pos 5 ∷ pos 40 ∷ pos 6 ∷ pos 6 ∷ pos 0 ∷ pos 0 ∷ pos 30 ∷ neg 4 ∷ neg 4 ∷ pos 0 ∷ [];
       buffer-left = pos 10 ∷ pos 1 ∷ pos 1 ∷ pos 1 ∷ pos 5 ∷ pos 2 ∷ pos 0 ∷ pos 1 ∷ pos 6 ∷ pos 1 ∷ pos 4 ∷ neg 4 ∷ pos 13 ∷ pos 1 ∷ pos 0 ∷ pos 4207 ∷ [];
       printed = [];
     }
@@ -247,10 +252,10 @@ abbrev pub k10-horizon : Case
 k10-horizon =
     record {
       call = planner;
-      job = job (pos 20001) (pos 0) (pos 10) (pos 11) (pos 1) (pos 5 ∷ pos 40 ∷ pos 6 ∷ pos 6 ∷ pos 0 ∷ pos 30 ∷ neg 4 ∷ neg 4 ∷ []) [];
+      job = job (pos 20001) (pos 0 ∷ pos 10 ∷ pos 11 ∷ pos 1 ∷ []) (pos 5 ∷ pos 40 ∷ pos 6 ∷ pos 6 ∷ pos 0 ∷ pos 0 ∷ pos 30 ∷ neg 4 ∷ neg 4 ∷ pos 0 ∷ []) [];
       buffer = blank 16;
       reply = refused 1 0;
-      table-left = pos 5 ∷ pos 40 ∷ pos 6 ∷ pos 6 ∷ pos 0 ∷ pos 30 ∷ neg 4 ∷ neg 4 ∷ [];
+      table-left = pos 5 ∷ pos 40 ∷ pos 6 ∷ pos 6 ∷ pos 0 ∷ pos 0 ∷ pos 30 ∷ neg 4 ∷ neg 4 ∷ pos 0 ∷ [];
       buffer-left = blank 16;
       printed = [];
     }
@@ -260,10 +265,10 @@ abbrev pub k10-stock : Case
 k10-stock =
     record {
       call = planner;
-      job = job (pos 20000) (pos 0) (pos 10) (pos 11) (pos 1) (pos 5 ∷ pos 40 ∷ pos 6 ∷ pos 6 ∷ pos 0 ∷ pos 30 ∷ neg 4 ∷ neg 4 ∷ []) [];
+      job = job (pos 20000) (pos 0 ∷ pos 10 ∷ pos 11 ∷ pos 1 ∷ []) (pos 5 ∷ pos 40 ∷ pos 6 ∷ pos 6 ∷ pos 0 ∷ pos 0 ∷ pos 30 ∷ neg 4 ∷ neg 4 ∷ pos 0 ∷ []) [];
       buffer = blank 16;
       reply = refused 3 0;
-      table-left = pos 5 ∷ pos 40 ∷ pos 6 ∷ pos 6 ∷ pos 0 ∷ pos 30 ∷ neg 4 ∷ neg 4 ∷ [];
+      table-left = pos 5 ∷ pos 40 ∷ pos 6 ∷ pos 6 ∷ pos 0 ∷ pos 0 ∷ pos 30 ∷ neg 4 ∷ neg 4 ∷ pos 0 ∷ [];
       buffer-left = blank 16;
       printed = [];
     }
@@ -273,10 +278,10 @@ abbrev pub k10-order : Case
 k10-order =
     record {
       call = planner;
-      job = standard (pos 0) (pos 0 ∷ pos 30 ∷ neg 1 ∷ pos 1 ∷ pos 5 ∷ pos 4 ∷ pos 1 ∷ pos 1 ∷ []) [];
+      job = standard (pos 0) (pos 0 ∷ pos 30 ∷ neg 1 ∷ pos 1 ∷ pos 0 ∷ pos 5 ∷ pos 4 ∷ pos 1 ∷ pos 1 ∷ pos 0 ∷ []) [];
       buffer = blank 16;
       reply = refused 5 1;
-      table-left = pos 0 ∷ pos 30 ∷ neg 1 ∷ pos 1 ∷ pos 5 ∷ pos 4 ∷ pos 1 ∷ pos 1 ∷ [];
+      table-left = pos 0 ∷ pos 30 ∷ neg 1 ∷ pos 1 ∷ pos 0 ∷ pos 5 ∷ pos 4 ∷ pos 1 ∷ pos 1 ∷ pos 0 ∷ [];
       buffer-left = blank 16;
       printed = [];
     }
@@ -286,10 +291,10 @@ abbrev pub k1-later : Case
 k1-later =
     record {
       call = planner;
-      job = job (pos 100) (pos 0) (pos 10) (pos 0) (pos 0) (pos 5 ∷ pos 40 ∷ pos 6 ∷ pos 6 ∷ pos 0 ∷ pos 30 ∷ neg 4 ∷ neg 4 ∷ []) [];
+      job = job (pos 100) (pos 0 ∷ pos 10 ∷ pos 0 ∷ pos 0 ∷ []) (pos 5 ∷ pos 40 ∷ pos 6 ∷ pos 6 ∷ pos 0 ∷ pos 0 ∷ pos 30 ∷ neg 4 ∷ neg 4 ∷ pos 0 ∷ []) [];
       buffer = blank 18;
       reply = done settled 1 2 16;
-      table-left = pos 5 ∷ pos 40 ∷ pos 6 ∷ pos 6 ∷ pos 6 ∷ pos 30 ∷ neg 4 ∷ neg 4 ∷ [];
+      table-left = pos 5 ∷ pos 40 ∷ pos 6 ∷ pos 6 ∷ pos 0 ∷ pos 6 ∷ pos 30 ∷ neg 4 ∷ neg 4 ∷ pos 0 ∷ [];
       buffer-left = pos 10 ∷ pos 1 ∷ pos 1 ∷ pos 1 ∷ pos 6 ∷ pos 2 ∷ pos 0 ∷ pos 1 ∷ pos 5 ∷ pos 1 ∷ pos 4 ∷ neg 4 ∷ pos 13 ∷ pos 1 ∷ pos 0 ∷ pos 4207 ∷ pos 77 ∷ pos 77 ∷ [];
       printed = pos 10 ∷ pos 1 ∷ pos 1 ∷ pos 1 ∷ pos 6 ∷ pos 2 ∷ pos 0 ∷ pos 1 ∷ pos 5 ∷ pos 1 ∷ pos 4 ∷ neg 4 ∷ pos 13 ∷ [];
     }
@@ -299,10 +304,10 @@ abbrev pub k7-later : Case
 k7-later =
     record {
       call = planner;
-      job = job (pos 100) (pos 0) (pos 10) (pos 0) (pos 0) (pos 7 ∷ pos 7 ∷ pos 6 ∷ pos 6 ∷ pos 7 ∷ pos 7 ∷ neg 4 ∷ neg 4 ∷ []) [];
+      job = job (pos 100) (pos 0 ∷ pos 10 ∷ pos 0 ∷ pos 0 ∷ []) (pos 7 ∷ pos 7 ∷ pos 6 ∷ pos 6 ∷ pos 0 ∷ pos 7 ∷ pos 7 ∷ neg 4 ∷ neg 4 ∷ pos 0 ∷ []) [];
       buffer = blank 22;
       reply = done conflict 1 1 19;
-      table-left = pos 7 ∷ pos 7 ∷ pos 6 ∷ pos 6 ∷ pos 7 ∷ pos 7 ∷ neg 4 ∷ neg 4 ∷ [];
+      table-left = pos 7 ∷ pos 7 ∷ pos 6 ∷ pos 6 ∷ pos 0 ∷ pos 7 ∷ pos 7 ∷ neg 4 ∷ neg 4 ∷ pos 0 ∷ [];
       buffer-left = pos 9 ∷ pos 0 ∷ pos 0 ∷ pos 0 ∷ pos 0 ∷ pos 3 ∷ pos 0 ∷ pos 1 ∷ pos 7 ∷ pos 1 ∷ pos 2 ∷ pos 7 ∷ pos 1 ∷ pos 4 ∷ neg 4 ∷ pos 16 ∷ pos 1 ∷ pos 0 ∷ pos 4207 ∷ blank 3;
       printed = pos 9 ∷ pos 0 ∷ pos 0 ∷ pos 0 ∷ pos 0 ∷ pos 3 ∷ pos 0 ∷ pos 1 ∷ pos 7 ∷ pos 1 ∷ pos 2 ∷ pos 7 ∷ pos 1 ∷ pos 4 ∷ neg 4 ∷ pos 16 ∷ [];
     }
@@ -312,10 +317,10 @@ abbrev pub cover-refused : Case
 cover-refused =
     record {
       call = planner;
-      job = job (pos 100) (pos 0) (pos 10) (pos 0) (pos 2) (pos 7 ∷ pos 7 ∷ pos 6 ∷ pos 6 ∷ pos 7 ∷ pos 7 ∷ neg 4 ∷ neg 4 ∷ []) [];
+      job = job (pos 100) (pos 0 ∷ pos 10 ∷ pos 0 ∷ pos 2 ∷ []) (pos 7 ∷ pos 7 ∷ pos 6 ∷ pos 6 ∷ pos 0 ∷ pos 7 ∷ pos 7 ∷ neg 4 ∷ neg 4 ∷ pos 0 ∷ []) [];
       buffer = blank 16;
       reply = refused 22 0;
-      table-left = pos 7 ∷ pos 7 ∷ pos 6 ∷ pos 6 ∷ pos 7 ∷ pos 7 ∷ neg 4 ∷ neg 4 ∷ [];
+      table-left = pos 7 ∷ pos 7 ∷ pos 6 ∷ pos 6 ∷ pos 0 ∷ pos 7 ∷ pos 7 ∷ neg 4 ∷ neg 4 ∷ pos 0 ∷ [];
       buffer-left = blank 16;
       printed = [];
     }
@@ -325,7 +330,7 @@ abbrev pub cover-last : Case
 cover-last =
     record {
       call = reader;
-      job = job (pos 100) (pos 0) (pos 10) (pos 11) (pos 2) [] [];
+      job = job (pos 100) (pos 0 ∷ pos 10 ∷ pos 11 ∷ pos 2 ∷ []) [] [];
       buffer = blank 3;
       reply = refused 3 0;
       table-left = [];
@@ -338,10 +343,88 @@ abbrev pub cover-first : Case
 cover-first =
     record {
       call = reader;
-      job = job (pos 100) (pos 0) (pos 10) (pos 0) (pos 2) (pos 7 ∷ []) [];
+      job = job (pos 100) (pos 0 ∷ pos 10 ∷ pos 0 ∷ pos 2 ∷ []) (pos 7 ∷ []) [];
       buffer = blank 3;
       reply = refused 22 0;
       table-left = pos 7 ∷ [];
+      buffer-left = blank 3;
+      printed = [];
+    }
+
+-- K1 in cage 1, under cover 0, with a delivery of another cage between: it counts nowhere, is quoted nowhere and is no target.
+abbrev pub two-cages : Case
+two-cages =
+    record {
+      call = planner;
+      job = job (pos 100) (pos 0 ∷ pos 10 ∷ pos 0 ∷ pos 1 ∷ pos 0 ∷ pos 10 ∷ pos 0 ∷ pos 0 ∷ []) (pos 5 ∷ pos 40 ∷ pos 6 ∷ pos 6 ∷ pos 1 ∷ pos 0 ∷ pos 3 ∷ pos 9 ∷ pos 9 ∷ pos 0 ∷ pos 0 ∷ pos 30 ∷ neg 4 ∷ neg 4 ∷ pos 1 ∷ []) [];
+      buffer = blank 18;
+      reply = done settled 1 2 16;
+      table-left = pos 5 ∷ pos 40 ∷ pos 6 ∷ pos 6 ∷ pos 1 ∷ pos 0 ∷ pos 3 ∷ pos 9 ∷ pos 9 ∷ pos 0 ∷ pos 6 ∷ pos 30 ∷ neg 4 ∷ neg 4 ∷ pos 1 ∷ [];
+      buffer-left = pos 10 ∷ pos 2 ∷ pos 2 ∷ pos 1 ∷ pos 6 ∷ pos 2 ∷ pos 0 ∷ pos 1 ∷ pos 5 ∷ pos 2 ∷ pos 4 ∷ neg 4 ∷ pos 13 ∷ pos 1 ∷ pos 0 ∷ pos 4207 ∷ pos 77 ∷ pos 77 ∷ [];
+      printed = pos 10 ∷ pos 2 ∷ pos 2 ∷ pos 1 ∷ pos 6 ∷ pos 2 ∷ pos 0 ∷ pos 1 ∷ pos 5 ∷ pos 2 ∷ pos 4 ∷ neg 4 ∷ pos 13 ∷ [];
+    }
+
+-- No cage: 29. A cage that its job has not: 30, naming the event.
+abbrev pub no-cage : Case
+no-cage =
+    record {
+      call = planner;
+      job = job (pos 100) [] (pos 7 ∷ pos 7 ∷ pos 6 ∷ pos 6 ∷ pos 0 ∷ pos 7 ∷ pos 7 ∷ neg 4 ∷ neg 4 ∷ pos 0 ∷ []) [];
+      buffer = blank 16;
+      reply = refused 29 0;
+      table-left = pos 7 ∷ pos 7 ∷ pos 6 ∷ pos 6 ∷ pos 0 ∷ pos 7 ∷ pos 7 ∷ neg 4 ∷ neg 4 ∷ pos 0 ∷ [];
+      buffer-left = blank 16;
+      printed = [];
+    }
+
+-- Cage 1 of one: 30.
+abbrev pub cage-unknown : Case
+cage-unknown =
+    record {
+      call = planner;
+      job = standard (pos 0) (pos 7 ∷ pos 7 ∷ pos 6 ∷ pos 6 ∷ pos 0 ∷ pos 7 ∷ pos 7 ∷ neg 4 ∷ neg 4 ∷ pos 1 ∷ []) [];
+      buffer = blank 16;
+      reply = refused 30 1;
+      table-left = pos 7 ∷ pos 7 ∷ pos 6 ∷ pos 6 ∷ pos 0 ∷ pos 7 ∷ pos 7 ∷ neg 4 ∷ neg 4 ∷ pos 1 ∷ [];
+      buffer-left = blank 16;
+      printed = [];
+    }
+
+-- Q 11 in cage 1: 3, naming the cage.
+abbrev pub second-cage : Case
+second-cage =
+    record {
+      call = planner;
+      job = job (pos 100) (pos 0 ∷ pos 10 ∷ pos 0 ∷ pos 1 ∷ pos 0 ∷ pos 10 ∷ pos 11 ∷ pos 1 ∷ []) (pos 7 ∷ pos 7 ∷ pos 6 ∷ pos 6 ∷ pos 0 ∷ pos 7 ∷ pos 7 ∷ neg 4 ∷ neg 4 ∷ pos 0 ∷ []) [];
+      buffer = blank 16;
+      reply = refused 3 1;
+      table-left = pos 7 ∷ pos 7 ∷ pos 6 ∷ pos 6 ∷ pos 0 ∷ pos 7 ∷ pos 7 ∷ neg 4 ∷ neg 4 ∷ pos 0 ∷ [];
+      buffer-left = blank 16;
+      printed = [];
+    }
+
+-- Q 11 in cage 0 and Lmax 1,000,001 in cage 1: 2, which is asked of all cages before 3.
+abbrev pub cage-by-cage : Case
+cage-by-cage =
+    record {
+      call = reader;
+      job = job (pos 100) (pos 0 ∷ pos 10 ∷ pos 11 ∷ pos 1 ∷ pos 0 ∷ pos 1000001 ∷ pos 0 ∷ pos 1 ∷ []) [] [];
+      buffer = blank 3;
+      reply = refused 2 1;
+      table-left = [];
+      buffer-left = blank 3;
+      printed = [];
+    }
+
+-- Event 0 in a cage that its job has not and event 1 with amounts −1..1: 6, which is asked of all events before 30.
+abbrev pub cage-last : Case
+cage-last =
+    record {
+      call = reader;
+      job = standard (pos 0) (pos 0 ∷ pos 5 ∷ pos 6 ∷ pos 6 ∷ pos 1 ∷ pos 0 ∷ pos 5 ∷ neg 1 ∷ pos 1 ∷ pos 0 ∷ []) [];
+      buffer = blank 3;
+      reply = refused 6 1;
+      table-left = pos 0 ∷ pos 5 ∷ pos 6 ∷ pos 6 ∷ pos 1 ∷ pos 0 ∷ pos 5 ∷ neg 1 ∷ pos 1 ∷ pos 0 ∷ [];
       buffer-left = blank 3;
       printed = [];
     }
@@ -357,7 +440,7 @@ Right c =
 
 pub record Cases : Type 0 where
   pub k1-right : Right k1
-  pub k1-text : Prints "100 0 10 0 1 2 0\n5 40 6 6\n0 30 -4 -4\n" "settled 1 2\n0 5 40 6 6\n1 5 30 -4 -4\n"
+  pub k1-text : Prints "100 1 0 10 0 1 2 0\n5 40 6 6 0\n0 30 -4 -4 0\n" "settled 1 2\n0 5 40 6 6\n1 5 30 -4 -4\n"
   pub k2-right : Right k2
   pub k3-right : Right k3
   pub k4-right : Right k4
@@ -375,11 +458,17 @@ pub record Cases : Type 0 where
   pub k10-stock-right : Right k10-stock
   pub k10-order-right : Right k10-order
   pub k1-later-right : Right k1-later
-  pub k1-later-text : Prints "100 0 10 0 0 2 0\n5 40 6 6\n0 30 -4 -4\n" "settled 1 2\n0 5 40 6 6\n1 6 30 -4 -4\n"
+  pub k1-later-text : Prints "100 1 0 10 0 0 2 0\n5 40 6 6 0\n0 30 -4 -4 0\n" "settled 1 2\n0 5 40 6 6\n1 6 30 -4 -4\n"
   pub k7-later-right : Right k7-later
   pub cover-refused-right : Right cover-refused
   pub cover-last-right : Right cover-last
   pub cover-first-right : Right cover-first
+  pub two-cages-right : Right two-cages
+  pub no-cage-right : Right no-cage
+  pub cage-unknown-right : Right cage-unknown
+  pub second-cage-right : Right second-cage
+  pub cage-by-cage-right : Right cage-by-cage
+  pub cage-last-right : Right cage-last
 
 pub all-right : Cases
 unfolding plan check questions own-questions each run made agenda each-of attempt acted premise-list slip-words premise-words quotes quoted any finding earliest sure-part most-in sum windows premises-at whole slip-at reading premises-fit names all-true narrowed gives slip-questions read-from read-all job-text numbers-behind digits-value job-of slip-room event-lines line-of integer numeral last-digits
@@ -409,4 +498,10 @@ all-right =
       cover-refused-right = refl;
       cover-last-right = refl;
       cover-first-right = refl;
+      two-cages-right = refl;
+      no-cage-right = refl;
+      cage-unknown-right = refl;
+      second-cage-right = refl;
+      cage-by-cage-right = refl;
+      cage-last-right = refl;
     }
