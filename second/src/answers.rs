@@ -2,31 +2,27 @@
 
 use std::io::{self, Read, Write};
 
-use crate::checker::{read_within, ReadAnswer};
-use crate::job::{Refusal, AMOUNT_BOUND};
-use crate::propagator::{plan_within, PlanAnswer, Tally};
+use crate::checker::{read, ReadAnswer};
+use crate::job::Refusal;
+use crate::propagator::{plan, PlanAnswer, Tally};
 use crate::stream::{checksum, Call, Record, RecordReader};
 
 /// Runs the record's call; the tables of the record are the lent ones.
 pub fn run_plan(record: &mut Record) -> PlanAnswer {
-    plan_within(
-        AMOUNT_BOUND,
-        record.settings,
-        &mut record.windows,
-        &record.lags,
-        &mut record.buffer,
-    )
+    let job = &mut record.job;
+    let mut windows = std::mem::take(&mut job.windows);
+    let answer = plan(&job.settings(), &mut windows, &mut record.buffer);
+    job.windows = windows;
+    answer
 }
 
 /// Runs the record's call; the tables of the record are the lent ones.
 pub fn run_read(record: &mut Record) -> ReadAnswer {
-    read_within(
-        AMOUNT_BOUND,
-        record.settings,
-        &mut record.windows,
-        &record.lags,
-        &record.buffer,
-    )
+    let job = &mut record.job;
+    let mut windows = std::mem::take(&mut job.windows);
+    let answer = read(&job.settings(), &mut windows, &record.buffer);
+    job.windows = windows;
+    answer
 }
 
 fn tally_words(word: &str, tally: Tally) -> String {
@@ -63,7 +59,7 @@ fn answer_words(record: &mut Record) -> String {
 /// and of the buffer as the call left them.
 pub fn answer_line(record: &mut Record) -> String {
     let answer = answer_words(record);
-    let windows = checksum(&record.windows);
+    let windows = checksum(&record.job.windows);
     let buffer = checksum(&record.buffer);
     format!("{answer} {windows} {buffer}")
 }

@@ -5,7 +5,7 @@ use crate::explanation::{
     explanation_words, Conclusion, End, CONFLICT_KIND, HEAD_WORDS, MARK, MAX_PREMISES,
     PREMISE_WORDS, TRAILER_WORDS,
 };
-use crate::job::{index_below, store_windows, Job, Refusal, Settings, Window, AMOUNT_BOUND};
+use crate::job::{index_below, store_windows, Job, Refusal, Settings, Window};
 use crate::rules::{outcome, Candidate, Outcome, Rule};
 
 /// The checker's answer.
@@ -18,19 +18,8 @@ pub enum ReadAnswer {
 
 /// Checks a log for a job; on acceptance the window table is left narrowed.
 /// Takes any numbers, any lengths and any words.
-pub fn read(settings: Settings, windows: &mut [i32], lags: &[i32], list: &[i32]) -> ReadAnswer {
-    read_within(AMOUNT_BOUND, settings, windows, lags, list)
-}
-
-/// `read` with another greatest amount than document 01's.
-pub fn read_within(
-    amount_bound: i64,
-    settings: Settings,
-    windows: &mut [i32],
-    lags: &[i32],
-    list: &[i32],
-) -> ReadAnswer {
-    let job = match Job::admit(amount_bound, settings, windows, lags, list.len()) {
+pub fn read(settings: &Settings, windows: &mut [i32], list: &[i32]) -> ReadAnswer {
+    let job = match Job::admit_with_room(settings, windows, list.len()) {
         Ok(job) => job,
         Err(refusal) => return ReadAnswer::Refused(refusal),
     };

@@ -6,15 +6,16 @@ use std::io::{self, Read, Write};
 use crate::answers::{run_plan, run_read};
 use crate::checker::ReadAnswer;
 use crate::explanation::CONFLICT_KIND;
-use crate::job::{Refusal, EVENT_WORDS, MAX_EVENTS};
+use crate::gen_lists::decode;
+use crate::job::{Refusal, CAGE_WORDS, MAX_CAGES, MAX_EVENTS};
 use crate::propagator::{PlanAnswer, Tally};
-use crate::raw_job::slip_places;
-use crate::stream::{Call, Record, RecordReader};
+use crate::raw_job::RawJob;
+use crate::stream::{Call, Record, RecordReader, HEADER_WORDS};
 
 /// One more than the greatest number of a question.
-const QUESTIONS: usize = 23;
+const QUESTIONS: usize = 31;
 /// The numbers of the questions of document 01 and of those added since.
-const ASKED: [std::ops::RangeInclusive<usize>; 2] = [1..=19, 22..=22];
+const ASKED: [std::ops::RangeInclusive<usize>; 3] = [1..=19, 22..=22, 29..=30];
 /// One more than the greatest number of a rule.
 const RULES: usize = 15;
 
@@ -26,16 +27,25 @@ struct RuleCounts {
 }
 
 impl RuleCounts {
-    fn add_list(&mut self, list: &[i32]) {
-        let places = slip_places(list);
-        for place in &places[..places.len() - 1] {
-            let rule = list[*place] as usize;
-            if list[place + 3] == CONFLICT_KIND {
-                self.conflict[rule] += 1;
-            } else {
-                self.narrowing[rule] += 1;
-            }
+    fn add(&mut self, rule: i32, kind: i32) {
+        if kind == CONFLICT_KIND {
+            self.conflict[rule as usize] += 1;
+        } else {
+            self.narrowing[rule as usize] += 1;
         }
+    }
+}
+
+/// Counts the explanations of an accepted list by the cover of the cage they
+/// speak of; those of rules 1 and 2 by the first cage's.
+fn add_list(rules: &mut [RuleCounts; 2], job: &RawJob, list: &[i32]) {
+    for slip in decode(list) {
+        let cage = match slip.rule {
+            1 | 2 => 0,
+            _ => job.window(slip.subject as usize)[4] as usize,
+        };
+        let cover = job.cages[cage * CAGE_WORDS + 3];
+        rules[cover as usize].add(slip.rule, slip.kind);
     }
 }
 
@@ -51,6 +61,7 @@ struct Counts {
     plan_rules: [RuleCounts; 2],
     most_rounds: usize,
     events: [u64; MAX_EVENTS + 1],
+    cages: [u64; MAX_CAGES + 1],
     open: u64,
     read_conflict: u64,
     read_refused: [u64; QUESTIONS],
@@ -70,6 +81,7 @@ impl Counts {
             plan_rules: [RuleCounts::default(); 2],
             most_rounds: 0,
             events: [0; MAX_EVENTS + 1],
+            cages: [0; MAX_CAGES + 1],
             open: 0,
             read_conflict: 0,
             read_refused: [0; QUESTIONS],
@@ -80,8 +92,8 @@ impl Counts {
     }
 
     fn add(&mut self, record: &mut Record) {
-        let tables = [&record.windows, &record.lags, &record.buffer];
-        self.words += tables.iter().map(|table| table.len() as u64).sum::<u64>() + 9;
+        let words: usize = record.tables().iter().map(|table| table.len()).sum();
+        self.words += (HEADER_WORDS + words) as u64;
         match record.call {
             Call::Plan => self.add_plan(record),
             Call::Read => self.add_read(record),
@@ -101,8 +113,9 @@ impl Counts {
         *counter += 1;
         let Tally { rounds, length, .. } = tally;
         self.most_rounds = self.most_rounds.max(rounds);
-        self.events[record.windows.len() / EVENT_WORDS] += 1;
-        self.plan_rules[record.settings.cover as usize].add_list(&record.buffer[..length]);
+        self.events[record.job.events()] += 1;
+        self.cages[record.job.cages.len() / CAGE_WORDS] += 1;
+        add_list(&mut self.plan_rules, &record.job, &record.buffer[..length]);
     }
 
     fn add_read(&mut self, record: &mut Record) {
@@ -115,7 +128,7 @@ impl Counts {
             }
         };
         *counter += 1;
-        self.read_rules[record.settings.cover as usize].add_list(&record.buffer);
+        add_list(&mut self.read_rules, &record.job, &record.buffer);
     }
 
     fn print(&self, out: &mut impl Write) -> io::Result<()> {
@@ -134,6 +147,11 @@ impl Counts {
             out,
             "plan: taken jobs for the rarest event count {fewest}, events 0: {}, 64: {}",
             self.events[0], self.events[MAX_EVENTS]
+        )?;
+        writeln!(
+            out,
+            "plan: taken jobs with 1 to 8 cages {:?}",
+            &self.cages[1..]
         )?;
         writeln!(
             out,

@@ -21,31 +21,20 @@ pub struct Finding {
 /// before it: by event, then by kind, each pair once.
 pub fn premises(job: &Job, windows: &[Window], finding: &Finding, out: &mut Vec<Premise>) {
     out.clear();
+    let e = finding.subject;
     match (finding.rule, finding.bound) {
-        (Rule::LagLatest, _) => push_end(windows, job.lags[finding.subject].b, End::Latest, out),
-        (Rule::LagEarliest, _) => {
-            push_end(windows, job.lags[finding.subject].a, End::Earliest, out)
-        }
+        (Rule::LagLatest, _) => push_end(windows, job.lags[e].b, End::Latest, out),
+        (Rule::LagEarliest, _) => push_end(windows, job.lags[e].a, End::Earliest, out),
         (Rule::Level(family), _) => {
-            level_premises(&View::new(job, family), windows, finding.subject, None, out)
+            level_premises(&View::new(job, family, e), windows, e, None, out)
         }
         (Rule::Share(family), _) => {
             let target = Some(finding.target);
-            level_premises(
-                &View::new(job, family),
-                windows,
-                finding.subject,
-                target,
-                out,
-            );
+            level_premises(&View::new(job, family, e), windows, e, target, out);
         }
-        (Rule::Wait(family), Some(bound)) => wait_premises(
-            &View::new(job, family),
-            windows,
-            finding.subject,
-            bound,
-            out,
-        ),
+        (Rule::Wait(family), Some(bound)) => {
+            wait_premises(&View::new(job, family, e), windows, e, bound, out)
+        }
         (Rule::Wait(_), None) => {}
     }
     // A bound that passes the opposite end quotes that end too.
@@ -94,7 +83,8 @@ fn level_premises(
     let side = view.side;
     let mut quotes_earliest = false;
     let mut quotes_latest = false;
-    for (y, window) in windows.iter().enumerate().filter(|(y, _)| *y != e) {
+    for y in view.others(e) {
+        let window = &windows[y];
         let standing = view.standing(windows, e, y);
         if side.is_delivery(window) {
             if standing == Standing::Not {
@@ -121,7 +111,8 @@ fn wait_premises(view: &View, windows: &[Window], e: usize, bound: i64, out: &mu
     let side = view.side;
     let split = bound - view.deliveries.step();
     let mut quotes_earliest = false;
-    for (y, window) in windows.iter().enumerate().filter(|(y, _)| *y != e) {
+    for y in view.others(e) {
+        let window = &windows[y];
         if side.is_delivery(window) {
             if window.t_min < split {
                 push_end(windows, y, side.most_end(), out);

@@ -1,7 +1,8 @@
-//! Faults put into a sound job, so that each refusal 1 to 11 and 22 is reached.
+//! Faults put into a sound job, so that each refusal 1 to 11, 22, 29
+//! and 30 is reached.
 
-use crate::job::{Settings, EVENT_WORDS, LAG_WORDS, MAX_EVENTS, MAX_LAGS};
-use crate::raw_job::{RawJob, MOST_LAG_WORDS, MOST_WINDOW_WORDS};
+use crate::job::{CAGE_WORDS, EVENT_WORDS, LAG_WORDS, MAX_CAGES, MAX_EVENTS, MAX_LAGS};
+use crate::raw_job::{RawJob, MOST_CAGE_WORDS, MOST_LAG_WORDS, MOST_WINDOW_WORDS};
 use crate::rng::Rng;
 
 /// Puts one to three faults into a job. The last of them may be a number in
@@ -9,7 +10,9 @@ use crate::rng::Rng;
 pub fn make_faulty(rng: &mut Rng, job: &mut RawJob, room: &mut usize) {
     let faults = rng.pick(&[1, 1, 1, 2, 2, 3]);
     // Questions 5, 6 and 8 to 10 hide behind the others: they come more often.
-    let mix = [1, 2, 3, 22, 4, 5, 5, 6, 6, 7, 8, 8, 9, 9, 10, 10, 11, 0];
+    let mix = [
+        1, 29, 2, 3, 22, 4, 5, 5, 6, 6, 30, 30, 7, 8, 8, 9, 9, 10, 10, 11, 0,
+    ];
     for _ in 0..faults {
         let question = rng.pick(&mix);
         one_fault(rng, job, room, question);
@@ -21,46 +24,58 @@ pub fn make_faulty(rng: &mut Rng, job: &mut RawJob, room: &mut usize) {
 
 fn one_fault(rng: &mut Rng, job: &mut RawJob, room: &mut usize, question: usize) {
     match question {
-        1 => job.settings.horizon = rng.pick(&[-1, 20_001, i32::MIN, i32::MAX]),
-        2 => {
-            let wild = rng.pick(&[-1_000_001, 1_000_001, i32::MIN, i32::MAX]);
-            *one_stock(rng, &mut job.settings) = wild;
+        1 => job.horizon = rng.pick(&[-1, 20_001, i32::MIN, i32::MAX]),
+        2 | 3 | 22 => spoil_cage(rng, job, question),
+        4 => {
+            let most = (MAX_EVENTS, MOST_WINDOW_WORDS);
+            odd_length(rng, &mut job.windows, EVENT_WORDS, most);
         }
-        3 => cross_limits(rng, &mut job.settings),
-        4 => odd_length(rng, &mut job.windows, EVENT_WORDS, MOST_WINDOW_WORDS),
         5 => spoil_times(rng, job),
         6 => spoil_amounts(rng, job),
-        7 => odd_length(rng, &mut job.lags, LAG_WORDS, MOST_LAG_WORDS),
+        7 => odd_length(rng, &mut job.lags, LAG_WORDS, (MAX_LAGS, MOST_LAG_WORDS)),
         8..=10 => spoil_lag(rng, job, question),
         11 => *room = rng.below(3),
-        22 => job.settings.cover = rng.pick(&[-1, 2, 3, i32::MIN, i32::MAX]),
+        29 if rng.chance(1, 4) => job.cages.clear(),
+        29 => odd_length(
+            rng,
+            &mut job.cages,
+            CAGE_WORDS,
+            (MAX_CAGES, MOST_CAGE_WORDS),
+        ),
+        30 => spoil_home(rng, job),
         _ => wild_anywhere(rng, job),
     }
 }
 
-fn one_stock<'s>(rng: &mut Rng, settings: &'s mut Settings) -> &'s mut i32 {
-    match rng.below(3) {
-        0 => &mut settings.lower,
-        1 => &mut settings.upper,
-        _ => &mut settings.opening,
+/// The fault of question 2, 3 or 22 at a random cage.
+fn spoil_cage(rng: &mut Rng, job: &mut RawJob, question: usize) {
+    let Some(cage) = random_entry(rng, &mut job.cages, CAGE_WORDS) else {
+        return;
+    };
+    match question {
+        2 => cage[rng.below(3)] = rng.pick(&[-1_000_001, 1_000_001, i32::MIN, i32::MAX]),
+        3 if rng.chance(1, 2) => cage[0] = cage[2].saturating_add(1),
+        3 => cage[1] = cage[2].saturating_sub(1),
+        _ => cage[3] = rng.pick(&[-1, 2, 3, i32::MIN, i32::MAX]),
     }
 }
 
-fn cross_limits(rng: &mut Rng, settings: &mut Settings) {
-    if rng.chance(1, 2) {
-        settings.lower = settings.opening.saturating_add(1);
-    } else {
-        settings.upper = settings.opening.saturating_sub(1);
+/// Question 30's fault at a random event.
+fn spoil_home(rng: &mut Rng, job: &mut RawJob) {
+    let cages = (job.cages.len() / CAGE_WORDS) as i32;
+    if let Some(window) = random_entry(rng, &mut job.windows, EVENT_WORDS) {
+        window[4] = rng.pick(&[-1, cages, cages + 1, 8, i32::MIN, i32::MAX]);
     }
 }
 
 /// A table that is not whole entries, or has one entry too many.
-fn odd_length(rng: &mut Rng, table: &mut Vec<i32>, entry: usize, most: usize) {
-    let limit = if entry == EVENT_WORDS {
-        entry * MAX_EVENTS
-    } else {
-        entry * MAX_LAGS
-    };
+fn odd_length(
+    rng: &mut Rng,
+    table: &mut Vec<i32>,
+    entry: usize,
+    (most_entries, most): (usize, usize),
+) {
+    let limit = entry * most_entries;
     let wanted = match rng.below(4) {
         0 => limit + entry,
         1 => limit + 1 + rng.below(most - limit),
@@ -77,7 +92,7 @@ fn odd_length(rng: &mut Rng, table: &mut Vec<i32>, entry: usize, most: usize) {
 
 /// Question 5's fault at a random event.
 fn spoil_times(rng: &mut Rng, job: &mut RawJob) {
-    let horizon = job.settings.horizon;
+    let horizon = job.horizon;
     let Some(window) = random_entry(rng, &mut job.windows, EVENT_WORDS) else {
         return;
     };
@@ -136,19 +151,17 @@ fn spoil_lag(rng: &mut Rng, job: &mut RawJob, question: usize) {
 /// An extreme or odd word at any place of the job.
 fn wild_anywhere(rng: &mut Rng, job: &mut RawJob) {
     let word = rng.wild_word();
-    match rng.below(7) {
-        0 => job.settings.horizon = word,
-        6 => job.settings.cover = word,
-        1 => *one_stock(rng, &mut job.settings) = word,
-        2 | 3 if !job.windows.is_empty() => {
-            let place = rng.below(job.windows.len());
-            job.windows[place] = word;
+    if rng.chance(1, 8) {
+        job.horizon = word;
+        return;
+    }
+    let tables = [&mut job.cages, &mut job.windows, &mut job.lags];
+    let kind = rng.below(tables.len());
+    for (number, table) in tables.into_iter().enumerate() {
+        if number == kind && !table.is_empty() {
+            let place = rng.below(table.len());
+            table[place] = word;
         }
-        _ if !job.lags.is_empty() => {
-            let place = rng.below(job.lags.len());
-            job.lags[place] = word;
-        }
-        _ => job.settings.opening = word,
     }
 }
 

@@ -7,7 +7,7 @@ use crate::explanation::{
     TRAILER_WORDS,
 };
 use crate::gen_faults::make_faulty;
-use crate::gen_jobs::{at_odds, small_sound_job, sound_job};
+use crate::gen_jobs::{creeping_job, small_sound_job, sound_job};
 use crate::gen_plans::cut_room;
 use crate::job::{Job, Window, EVENT_WORDS, LAG_WORDS};
 use crate::raw_job::{slip_places, tally_of, RawJob, MOST_BUFFER_WORDS};
@@ -275,7 +275,7 @@ fn drop_empty_premises(raw: &RawJob, slip: &mut LooseSlip) {
         let (Some(words), Some(end)) = (window, End::from_kind(fact[1])) else {
             return true;
         };
-        let horizon = i64::from(raw.settings.horizon);
+        let horizon = i64::from(raw.horizon);
         let widest = Window::from_words(words).widest(horizon, raw.amount_bound);
         end.narrows(&widest, i64::from(fact[2]))
     });
@@ -490,7 +490,11 @@ pub fn read_record(rng: &mut Rng) -> Record {
         list.truncate(room);
     }
     list.truncate(MOST_BUFFER_WORDS);
-    Record::new(Call::Read, job, list)
+    Record {
+        call: Call::Read,
+        job,
+        buffer: list,
+    }
 }
 
 /// A sound job and slips for it; jobs on which no rule fires stay few.
@@ -507,7 +511,7 @@ fn job_and_slips(rng: &mut Rng) -> (RawJob, Vec<LooseSlip>) {
 /// Mostly small jobs, now and then a large one or a long creep.
 fn list_job(rng: &mut Rng) -> RawJob {
     match rng.below(500) {
-        0 => at_odds(rng, 1_200),
+        0 => creeping_job(rng, 1_200),
         1..=39 => sound_job(rng),
         _ => small_sound_job(rng),
     }
@@ -541,14 +545,7 @@ fn some_list(rng: &mut Rng, raw: &RawJob, mut slips: Vec<LooseSlip>) -> Vec<i32>
 /// The slips that a list starts from: the propagator's own or a rival's.
 fn base_slips(rng: &mut Rng, raw: &RawJob) -> Vec<LooseSlip> {
     let most = rng.pick(&[60, 200, 600, 600, MOST_BUFFER_WORDS - 900]);
-    let job = Job::admit(
-        raw.amount_bound,
-        raw.settings,
-        &raw.windows,
-        &raw.lags,
-        TRAILER_WORDS,
-    );
-    match job {
+    match raw.admitted() {
         Ok(job) if rng.chance(2, 5) => rival_list(rng, &job),
         _ => decode(&own_list(rng, raw, most)),
     }

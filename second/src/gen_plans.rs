@@ -2,7 +2,7 @@
 
 use crate::explanation::TRAILER_WORDS;
 use crate::gen_faults::make_faulty;
-use crate::gen_jobs::{at_odds, sound_job};
+use crate::gen_jobs::{creeping_job, sound_job};
 use crate::raw_job::{slip_places, tally_of, RawJob, MOST_BUFFER_WORDS};
 use crate::rng::Rng;
 use crate::stream::{Call, Record};
@@ -14,7 +14,11 @@ pub fn plan_record(rng: &mut Rng) -> Record {
         make_faulty(rng, &mut job, &mut room);
     }
     let buffer = (0..room).map(|_| rng.word()).collect();
-    Record::new(Call::Plan, job, buffer)
+    Record {
+        call: Call::Plan,
+        job,
+        buffer,
+    }
 }
 
 /// A sound job and a buffer length for it; jobs on which no rule fires are
@@ -22,7 +26,7 @@ pub fn plan_record(rng: &mut Rng) -> Record {
 fn job_and_room(rng: &mut Rng) -> (RawJob, usize) {
     loop {
         let job = match rng.below(400) {
-            0 => at_odds(rng, 1_200),
+            0 => creeping_job(rng, 1_200),
             _ => sound_job(rng),
         };
         let (answer, buffer) = job.planned(MOST_BUFFER_WORDS);

@@ -6,8 +6,8 @@ use std::io::{self, Write};
 use std::path::Path;
 
 use crate::gen_faults::make_faulty;
-use crate::gen_jobs::{at_odds, sound_job};
-use crate::job::{EVENT_WORDS, LAG_WORDS};
+use crate::gen_jobs::{creeping_job, sound_job};
+use crate::job::{CAGE_WORDS, EVENT_WORDS, LAG_WORDS};
 use crate::raw_job::RawJob;
 use crate::rng::Rng;
 use crate::text::answer_text;
@@ -51,24 +51,21 @@ pub fn random_text(rng: &mut Rng) -> Vec<u8> {
 // Numbers
 // ---------------------------------------------------------------------------
 
-/// Where cover stands among a text's numbers, where n does, and where m does.
-const COVER: usize = 4;
-const EVENT_COUNT: usize = 5;
-const LAG_COUNT: usize = 6;
+/// Where the number of cages stands among a text's numbers.
+const CAGE_COUNT: usize = 1;
 
-/// The numbers of a job's text: H Lmin Lmax Q cover n m, the events, the lags.
+/// The numbers of a job's text: H, the number of cages and their words, n, m,
+/// the events, the lags.
 fn job_numbers(rng: &mut Rng) -> Vec<i64> {
     let job = random_job(rng);
-    let head = [
-        job.settings.horizon,
-        job.settings.lower,
-        job.settings.upper,
-        job.settings.opening,
-        job.settings.cover,
+    let counts = [
         (job.windows.len() / EVENT_WORDS) as i32,
         (job.lags.len() / LAG_WORDS) as i32,
     ];
-    head.iter()
+    [job.horizon, (job.cages.len() / CAGE_WORDS) as i32]
+        .iter()
+        .chain(&job.cages)
+        .chain(&counts)
         .chain(&job.windows)
         .chain(&job.lags)
         .map(|word| i64::from(*word))
@@ -77,7 +74,7 @@ fn job_numbers(rng: &mut Rng) -> Vec<i64> {
 
 fn random_job(rng: &mut Rng) -> RawJob {
     let mut job = match rng.below(100) {
-        0 => at_odds(rng, 20_000),
+        0 => creeping_job(rng, 20_000),
         _ => sound_job(rng),
     };
     if rng.chance(1, 4) {
@@ -87,21 +84,26 @@ fn random_job(rng: &mut Rng) -> RawJob {
     job
 }
 
-/// A number too few or too many, cover left out, or counts that do not fit.
+/// A number too few or too many, or counts that do not fit.
 fn miscount(rng: &mut Rng, numbers: &mut Vec<i64>) {
-    match rng.below(7) {
+    // n and m follow the cages, as many as the text says; m is next to n.
+    let after_cages = CAGE_COUNT + 1 + CAGE_WORDS * numbers[CAGE_COUNT].max(0) as usize;
+    let event_count = after_cages.min(numbers.len() - 2);
+    let lag_count = event_count + 1;
+    match rng.below(9) {
         0 => {
             numbers.pop();
         }
         1 => numbers.push(rng.within(-9, 9)),
         2 => numbers.truncate(rng.below(numbers.len())),
-        3 => numbers[EVENT_COUNT] = rng.pick(&[-1, 65, 64, i64::from(i32::MAX)]),
-        4 => numbers[LAG_COUNT] = rng.pick(&[-1, 257, 256, i64::from(i32::MIN)]),
-        5 => {
-            numbers.remove(COVER);
+        3 => numbers[event_count] = rng.pick(&[-1, 65, 64, i64::from(i32::MAX)]),
+        4 => numbers[lag_count] = rng.pick(&[-1, 257, 256, i64::from(i32::MIN)]),
+        5 => numbers[CAGE_COUNT] = rng.pick(&[-1, 0, 9, 8, i64::from(i32::MAX)]),
+        6 => {
+            numbers.remove(CAGE_COUNT);
         }
         _ => {
-            let place = rng.pick(&[EVENT_COUNT, LAG_COUNT]);
+            let place = rng.pick(&[CAGE_COUNT, event_count, lag_count]);
             numbers[place] += rng.pick(&[-1, 1]);
         }
     }

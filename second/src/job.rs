@@ -1,5 +1,5 @@
-//! The job: five numbers, the window table, the lag table, and the questions
-//! 1 to 11 and 22 that decide whether a call is taken.
+//! The job: horizon, cages, windows and lags, and the questions 1 to 11, 22, 29
+//! and 30 that decide whether a call is taken.
 
 /// The greatest amount of an event in document 01. The inner functions take
 /// it as a parameter, so that small jobs can be enumerated in full.
@@ -10,19 +10,23 @@ pub const STOCK_BOUND: i64 = 1_000_000;
 pub const LAG_BOUND: i64 = 20_000;
 pub const MAX_EVENTS: usize = 64;
 pub const MAX_LAGS: usize = 256;
-pub const EVENT_WORDS: usize = 4;
+pub const MAX_CAGES: usize = 8;
+pub const CAGE_WORDS: usize = 4;
+pub const EVENT_WORDS: usize = 5;
 pub const LAG_WORDS: usize = 3;
 pub const MIN_ROOM: usize = 3;
 pub const MAX_ROOM: usize = 1_000_000;
 
-/// The five plain numbers of a call, as sent in: H, Lmin, Lmax, Q, cover.
-#[derive(Clone, Copy, Debug, PartialEq, Eq)]
-pub struct Settings {
+/// All of a job that no call changes, as sent in: H and the lent tables but
+/// the windows.
+#[derive(Clone, Copy, Debug)]
+pub struct Settings<'a> {
     pub horizon: i32,
-    pub lower: i32,
-    pub upper: i32,
-    pub opening: i32,
-    pub cover: i32,
+    /// Lmin, Lmax, Q, cover for each cage.
+    pub cages: &'a [i32],
+    pub lags: &'a [i32],
+    /// The greatest amount; document 01's is `AMOUNT_BOUND`.
+    pub amount_bound: i64,
 }
 
 /// A "no" to a question: its number and the first event, lag or explanation
@@ -43,7 +47,7 @@ pub struct Window {
 }
 
 impl Window {
-    /// Four words of the window table as a window.
+    /// The first four words of an event as a window.
     pub fn from_words(words: &[i32]) -> Window {
         Window {
             t_min: i64::from(words[0]),
@@ -53,9 +57,9 @@ impl Window {
         }
     }
 
-    /// The window as four words of the table. Every end of an accepted job
-    /// fits a word.
-    pub fn to_words(self) -> [i32; EVENT_WORDS] {
+    /// The window as the first four words of an event. Every end of an accepted
+    /// job fits a word.
+    pub fn to_words(self) -> [i32; 4] {
         [self.t_min, self.t_max, self.h_min, self.h_max].map(|end| end as i32)
     }
 
@@ -119,39 +123,64 @@ impl Cover {
     }
 }
 
-/// An accepted job.
-#[derive(Clone, Debug)]
-pub struct Job {
-    pub horizon: i64,
+/// A cage: its limits, opening stock and cover.
+#[derive(Clone, Copy, Debug, PartialEq, Eq)]
+pub struct Cage {
     pub lower: i64,
     pub upper: i64,
     pub opening: i64,
     pub cover: Cover,
+}
+
+/// An accepted job.
+#[derive(Clone, Debug)]
+pub struct Job {
+    pub horizon: i64,
+    pub cages: Vec<Cage>,
     pub windows: Vec<Window>,
+    /// The cage of each event.
+    pub cage_of: Vec<usize>,
+    /// The events of each cage, in event order.
+    pub members: Vec<Vec<usize>>,
     pub lags: Vec<Lag>,
     pub amount_bound: i64,
 }
 
 impl Job {
-    /// Asks questions 1 to 3, 22 and 4 to 11 in this order. `room` is the number of words
-    /// of the slip buffer (for the checker, of its list).
-    pub fn admit(
-        amount_bound: i64,
-        settings: Settings,
+    /// Asks the job's own questions in their order: 1, 29, 2, 3, 22, 4, 5, 6,
+    /// 30, 7, 8, 9, 10.
+    pub fn admit(settings: &Settings, windows: &[i32]) -> Result<Job, Refusal> {
+        let horizon = i64::from(settings.horizon);
+        ask(1, (0..=HORIZON_BOUND).contains(&horizon))?;
+        let cages = admit_cages(settings.cages)?;
+        let entries = admit_windows(windows, horizon, settings.amount_bound)?;
+        let cage_of = admit_cage_words(windows, cages.len())?;
+        let lags = admit_lags(settings.lags, entries.len())?;
+        let mut members = vec![Vec::new(); cages.len()];
+        for (event, cage) in cage_of.iter().enumerate() {
+            members[*cage].push(event);
+        }
+        Ok(Job {
+            horizon,
+            cages,
+            windows: entries,
+            cage_of,
+            members,
+            lags,
+            amount_bound: settings.amount_bound,
+        })
+    }
+
+    /// The job's own questions, then 11: has the slip buffer (for the checker,
+    /// its list) 3 to 1,000,000 words?
+    pub fn admit_with_room(
+        settings: &Settings,
         windows: &[i32],
-        lags: &[i32],
         room: usize,
     ) -> Result<Job, Refusal> {
-        let numbers = admit_numbers(settings)?;
-        let windows = admit_windows(windows, numbers.horizon, amount_bound)?;
-        let lags = admit_lags(lags, windows.len())?;
+        let job = Job::admit(settings, windows)?;
         ask(11, (MIN_ROOM..=MAX_ROOM).contains(&room))?;
-        Ok(Job {
-            windows,
-            lags,
-            amount_bound,
-            ..numbers
-        })
+        Ok(job)
     }
 
     /// The widest windows of all events (question 16).
@@ -180,30 +209,30 @@ fn ask_all<T>(number: i32, entries: &[T], yes: impl Fn(&T) -> bool) -> Result<()
     }
 }
 
-/// Questions 1 to 3 and 22. The job handed back has no events and no lags yet.
-fn admit_numbers(settings: Settings) -> Result<Job, Refusal> {
-    let horizon = i64::from(settings.horizon);
-    let lower = i64::from(settings.lower);
-    let upper = i64::from(settings.upper);
-    let opening = i64::from(settings.opening);
+/// Questions 29, 2, 3 and 22.
+fn admit_cages(words: &[i32]) -> Result<Vec<Cage>, Refusal> {
+    ask(
+        29,
+        !words.is_empty() && whole_entries(words, CAGE_WORDS, MAX_CAGES),
+    )?;
+    let entries: Vec<&[i32]> = words.chunks_exact(CAGE_WORDS).collect();
     let stock = -STOCK_BOUND..=STOCK_BOUND;
-    ask(1, (0..=HORIZON_BOUND).contains(&horizon))?;
-    ask(2, [lower, upper, opening].iter().all(|x| stock.contains(x)))?;
-    ask(3, lower <= opening && opening <= upper)?;
-    let cover = Cover::from_word(settings.cover).ok_or(Refusal {
-        number: 22,
-        place: 0,
+    ask_all(2, &entries, |cage| {
+        cage[..3]
+            .iter()
+            .all(|word| stock.contains(&i64::from(*word)))
     })?;
-    Ok(Job {
-        horizon,
-        lower,
-        upper,
-        opening,
-        cover,
-        windows: Vec::new(),
-        lags: Vec::new(),
-        amount_bound: 0,
-    })
+    ask_all(3, &entries, |cage| cage[0] <= cage[2] && cage[2] <= cage[1])?;
+    ask_all(22, &entries, |cage| Cover::from_word(cage[3]).is_some())?;
+    let cages = entries.iter().filter_map(|cage| {
+        Some(Cage {
+            lower: i64::from(cage[0]),
+            upper: i64::from(cage[1]),
+            opening: i64::from(cage[2]),
+            cover: Cover::from_word(cage[3])?,
+        })
+    });
+    Ok(cages.collect())
 }
 
 /// Questions 4 to 6.
@@ -218,6 +247,14 @@ fn admit_windows(words: &[i32], horizon: i64, amount_bound: i64) -> Result<Vec<W
         window.amounts_of_one_kind(amount_bound)
     })?;
     Ok(windows)
+}
+
+/// Question 30: the cage of each event.
+fn admit_cage_words(words: &[i32], cages: usize) -> Result<Vec<usize>, Refusal> {
+    let entries: Vec<&[i32]> = words.chunks_exact(EVENT_WORDS).collect();
+    let cage_of = |event: &&[i32]| index_below(event[4], cages);
+    ask_all(30, &entries, |event| cage_of(event).is_some())?;
+    Ok(entries.iter().filter_map(cage_of).collect())
 }
 
 /// Questions 7 to 10.
@@ -248,9 +285,9 @@ pub fn index_below(word: i32, count: usize) -> Option<usize> {
     usize::try_from(word).ok().filter(|index| *index < count)
 }
 
-/// Writes the windows back into the caller's table.
+/// Writes the windows back into the caller's table; an event's cage stays.
 pub fn store_windows(windows: &[Window], words: &mut [i32]) {
     for (window, entry) in windows.iter().zip(words.chunks_exact_mut(EVENT_WORDS)) {
-        entry.copy_from_slice(&window.to_words());
+        entry[..4].copy_from_slice(&window.to_words());
     }
 }

@@ -14,6 +14,7 @@ pub mod explanation;
 pub mod gen_faults;
 pub mod gen_jobs;
 pub mod gen_lists;
+pub mod gen_parts;
 pub mod gen_plans;
 pub mod gen_texts;
 pub mod job;

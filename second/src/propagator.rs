@@ -5,7 +5,7 @@ use crate::explain::{premises, Finding};
 use crate::explanation::{
     explanation_words, write_explanation, write_trailer, Conclusion, Premise, TRAILER_WORDS,
 };
-use crate::job::{store_windows, Job, Refusal, Settings, Window, AMOUNT_BOUND};
+use crate::job::{store_windows, Job, Refusal, Settings, Window};
 use crate::rules::{
     lag_earliest_bound, lag_latest_bound, level, share_bound, wait_bound, Candidate, Level, Rule,
 };
@@ -33,28 +33,13 @@ pub enum PlanAnswer {
 
 /// Narrows the window table and writes the log into the buffer. Takes any
 /// numbers and any lengths; a refused call changes no word.
-pub fn plan(
-    settings: Settings,
-    windows: &mut [i32],
-    lags: &[i32],
-    buffer: &mut [i32],
-) -> PlanAnswer {
-    plan_within(AMOUNT_BOUND, settings, windows, lags, buffer)
-}
-
-/// `plan` with another greatest amount than document 01's.
-pub fn plan_within(
-    amount_bound: i64,
-    settings: Settings,
-    windows: &mut [i32],
-    lags: &[i32],
-    buffer: &mut [i32],
-) -> PlanAnswer {
-    let job = match Job::admit(amount_bound, settings, windows, lags, buffer.len()) {
+pub fn plan(settings: &Settings, windows: &mut [i32], buffer: &mut [i32]) -> PlanAnswer {
+    let job = match Job::admit_with_room(settings, windows, buffer.len()) {
         Ok(job) => job,
         Err(refusal) => return PlanAnswer::Refused(refusal),
     };
-    let mut run = Run::new(&job, buffer);
+    let open = open_amounts(&job);
+    let mut run = Run::new(&job, &open, buffer);
     let halt = run.rounds();
     let tally = run.close();
     store_windows(&run.windows, windows);
@@ -85,10 +70,31 @@ struct Run<'a> {
     last: usize,
     premises: Vec<Premise>,
     candidates: Vec<Candidate>,
+    /// The open amounts of each cage, when the run began.
+    open: &'a [OpenAmounts],
+}
+
+/// The events of a cage whose amount is not fixed. While something is to
+/// spare, no other can be narrowed by rules 5, 8, 11 and 14.
+struct OpenAmounts {
+    events: Vec<usize>,
+    /// The widest range of amounts among them; 0 if there are none.
+    widest: i64,
+}
+
+impl OpenAmounts {
+    fn of(job: &Job, members: &[usize]) -> OpenAmounts {
+        let range = |event: &usize| job.windows[*event].h_max - job.windows[*event].h_min;
+        let open = members.iter().filter(|event| range(event) > 0);
+        OpenAmounts {
+            events: open.copied().collect(),
+            widest: members.iter().map(range).max().unwrap_or(0),
+        }
+    }
 }
 
 impl<'a> Run<'a> {
-    fn new(job: &'a Job, buffer: &'a mut [i32]) -> Run<'a> {
+    fn new(job: &'a Job, open: &'a [OpenAmounts], buffer: &'a mut [i32]) -> Run<'a> {
         Run {
             job,
             windows: job.windows.clone(),
@@ -99,6 +105,7 @@ impl<'a> Run<'a> {
             last: 0,
             premises: Vec::new(),
             candidates: Vec::new(),
+            open,
         }
     }
 
@@ -138,7 +145,7 @@ impl<'a> Run<'a> {
 
     /// The three rules of a family for an event.
     fn family(&mut self, family: Family, e: usize) -> Result<(), Halt> {
-        let view = View::new(self.job, family);
+        let view = View::new(self.job, family, e);
         let mut at = level(&view, &self.windows, e);
         if at.most < view.limit {
             return self.level(family, e);
@@ -176,7 +183,16 @@ impl<'a> Run<'a> {
     /// wider than what is to spare can be narrowed.
     fn shares(&mut self, family: Family, view: &View, e: usize, at: Level) -> Result<(), Halt> {
         let spare = at.most - view.limit;
-        for target in 0..self.windows.len() {
+        let open = &self.open[self.job.cage_of[e]];
+        if open.widest <= spare {
+            return Ok(());
+        }
+        let targets = if spare < 0 {
+            view.members
+        } else {
+            &open.events
+        };
+        for &target in targets {
             let window = &self.windows[target];
             if window.h_max - window.h_min <= spare {
                 continue;
@@ -254,4 +270,9 @@ impl<'a> Run<'a> {
             length: self.used + TRAILER_WORDS,
         }
     }
+}
+
+fn open_amounts(job: &Job) -> Vec<OpenAmounts> {
+    let cages = job.members.iter();
+    cages.map(|members| OpenAmounts::of(job, members)).collect()
 }

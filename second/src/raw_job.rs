@@ -2,18 +2,20 @@
 //! for it.
 
 use crate::explanation::{explanation_words, HEAD_WORDS, TRAILER_WORDS};
-use crate::job::{Settings, EVENT_WORDS};
-use crate::propagator::{plan_within, PlanAnswer, Tally};
+use crate::job::{Job, Refusal, Settings, EVENT_WORDS};
+use crate::propagator::{plan, PlanAnswer, Tally};
 
 /// The most words that a record's tables have.
-pub const MOST_WINDOW_WORDS: usize = 300;
+pub const MOST_CAGE_WORDS: usize = 40;
+pub const MOST_WINDOW_WORDS: usize = 360;
 pub const MOST_LAG_WORDS: usize = 800;
 pub const MOST_BUFFER_WORDS: usize = 20_000;
 
 /// A job as words, sound or not.
 #[derive(Clone, Debug)]
 pub struct RawJob {
-    pub settings: Settings,
+    pub horizon: i32,
+    pub cages: Vec<i32>,
     pub windows: Vec<i32>,
     pub lags: Vec<i32>,
     /// The greatest amount that the job is meant for.
@@ -25,17 +27,31 @@ impl RawJob {
         self.windows.len() / EVENT_WORDS
     }
 
+    /// The words of an event.
+    pub fn window(&self, event: usize) -> &[i32] {
+        &self.windows[event * EVENT_WORDS..(event + 1) * EVENT_WORDS]
+    }
+
+    /// All of the job but its window table.
+    pub fn settings(&self) -> Settings<'_> {
+        Settings {
+            horizon: self.horizon,
+            cages: &self.cages,
+            lags: &self.lags,
+            amount_bound: self.amount_bound,
+        }
+    }
+
+    /// The job, if its own questions are all answered with yes.
+    pub fn admitted(&self) -> Result<Job, Refusal> {
+        Job::admit(&self.settings(), &self.windows)
+    }
+
     /// Runs the propagator on copies of the tables: the answer and the buffer.
     pub fn planned(&self, room: usize) -> (PlanAnswer, Vec<i32>) {
         let mut windows = self.windows.clone();
         let mut buffer = vec![0; room];
-        let answer = plan_within(
-            self.amount_bound,
-            self.settings,
-            &mut windows,
-            &self.lags,
-            &mut buffer,
-        );
+        let answer = plan(&self.settings(), &mut windows, &mut buffer);
         (answer, buffer)
     }
 }

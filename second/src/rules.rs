@@ -94,10 +94,11 @@ fn level_on(side: Side, later: i64, view: &View, windows: &[Window], e: usize) -
     let possibly_up_to = at.t_max - view.pulls.step();
     let mut sure = view.opening;
     let mut extra = 0;
-    for (y, window) in windows.iter().enumerate() {
+    for &y in view.members {
         if y == e {
             continue;
         }
+        let window = &windows[y];
         let delivery = side.is_delivery(window);
         let later = i64::from(delivery) * later;
         if window.t_max + later <= surely_up_to {
@@ -134,9 +135,12 @@ pub fn wait_bound(
     }
     let side = view.side;
     candidates.clear();
-    for (y, window) in windows.iter().enumerate() {
-        let possibly = view.deliveries.standing(&windows[e], window) == Standing::Possibly;
-        if y != e && possibly && side.is_delivery(window) {
+    for &y in view.members {
+        let window = &windows[y];
+        if y == e || !side.is_delivery(window) {
+            continue;
+        }
+        if view.deliveries.standing(&windows[e], window) == Standing::Possibly {
             candidates.push((window.t_min, side.most(window)));
         }
     }
@@ -152,7 +156,7 @@ pub fn wait_bound(
 }
 
 /// The bound of rules 5, 8, 11 and 14 for a target, given the view's most at
-/// e; nothing where the target is not one of the rule's.
+/// e; nothing where the target, an event of the cage, is not one of the rule's.
 #[inline]
 pub fn share_bound(
     view: &View,
@@ -207,7 +211,7 @@ pub fn outcome(
         Rule::LagLatest => Some(lag_latest_bound(job, windows, subject)),
         Rule::LagEarliest => Some(lag_earliest_bound(job, windows, subject)),
         Rule::Level(family) => {
-            let view = View::new(job, family);
+            let view = View::new(job, family, subject);
             return if level(&view, windows, subject).most < view.limit {
                 Outcome::Conflict
             } else {
@@ -215,12 +219,15 @@ pub fn outcome(
             };
         }
         Rule::Wait(family) => {
-            let view = View::new(job, family);
+            let view = View::new(job, family, subject);
             let sure = level(&view, windows, subject).sure;
             wait_bound(&view, windows, subject, sure, candidates)
         }
         Rule::Share(family) => {
-            let view = View::new(job, family);
+            let view = View::new(job, family, subject);
+            if job.cage_of[target] != job.cage_of[subject] {
+                return Outcome::Nothing;
+            }
             let most = level(&view, windows, subject).most;
             share_bound(&view, windows, subject, target, most)
         }

@@ -1,11 +1,11 @@
 //! The stream of records that two implementations are compared on: little-endian
-//! 32-bit words, nine header words a record, a single 0 at the end.
+//! 32-bit words, a header and its tables a record, a single 0 at the end.
 
 use std::io::{self, Read, Write};
 
 use crate::gen_lists::read_record;
 use crate::gen_plans::plan_record;
-use crate::job::Settings;
+use crate::job::AMOUNT_BOUND;
 use crate::raw_job::RawJob;
 use crate::rng::Rng;
 
@@ -13,6 +13,10 @@ const PLAN_KIND: i32 = 1;
 const READ_KIND: i32 = 2;
 const END_WORD: i32 = 0;
 const WORD_BYTES: usize = 4;
+/// Cages, windows, lags, buffer.
+const TABLES: usize = 4;
+/// Kind, H and the lengths of the tables.
+pub const HEADER_WORDS: usize = 2 + TABLES;
 /// A longer table in a header means that the stream is not one of ours.
 const MOST_WORDS: i32 = 2_000_000;
 
@@ -23,51 +27,32 @@ pub enum Call {
     Read,
 }
 
-/// One call: the numbers, the two tables, and the slip buffer's words at entry
-/// (for the checker, the list).
+/// One call: the job's words, and the slip buffer's words at entry (for the
+/// checker, the list).
 #[derive(Clone, Debug)]
 pub struct Record {
     pub call: Call,
-    pub settings: Settings,
-    pub windows: Vec<i32>,
-    pub lags: Vec<i32>,
+    pub job: RawJob,
     pub buffer: Vec<i32>,
 }
 
 impl Record {
-    pub fn new(call: Call, job: RawJob, buffer: Vec<i32>) -> Record {
-        Record {
-            call,
-            settings: job.settings,
-            windows: job.windows,
-            lags: job.lags,
-            buffer,
-        }
+    /// The record's tables in the order in which they are written.
+    pub fn tables(&self) -> [&[i32]; TABLES] {
+        let job = &self.job;
+        [&job.cages, &job.windows, &job.lags, &self.buffer]
     }
 
-    fn header(&self) -> [i32; 9] {
+    pub fn write(&self, out: &mut impl Write) -> io::Result<()> {
         let call = match self.call {
             Call::Plan => PLAN_KIND,
             Call::Read => READ_KIND,
         };
-        [
-            call,
-            self.settings.horizon,
-            self.settings.lower,
-            self.settings.upper,
-            self.settings.opening,
-            self.settings.cover,
-            self.windows.len() as i32,
-            self.lags.len() as i32,
-            self.buffer.len() as i32,
-        ]
-    }
-
-    pub fn write(&self, out: &mut impl Write) -> io::Result<()> {
-        write_words(out, &self.header())?;
-        write_words(out, &self.windows)?;
-        write_words(out, &self.lags)?;
-        write_words(out, &self.buffer)
+        write_words(out, &[call, self.job.horizon])?;
+        write_words(out, &self.tables().map(|table| table.len() as i32))?;
+        self.tables()
+            .iter()
+            .try_for_each(|table| write_words(out, table))
     }
 }
 
@@ -99,23 +84,25 @@ impl<R: Read> RecordReader<R> {
             READ_KIND => Call::Read,
             _ => return Err(bad_stream("unknown kind of record")),
         };
-        let head = self.words(8)?;
-        let windows = self.table(head[5])?;
-        let lags = self.table(head[6])?;
-        let buffer = self.table(head[7])?;
-        Ok(Some(Record {
-            call,
-            settings: Settings {
-                horizon: head[0],
-                lower: head[1],
-                upper: head[2],
-                opening: head[3],
-                cover: head[4],
-            },
+        let horizon = self.words(1)?[0];
+        let lengths = self.words(TABLES)?;
+        let [cages, windows, lags, buffer] = self.tables(&lengths)?;
+        let job = RawJob {
+            horizon,
+            cages,
             windows,
             lags,
-            buffer,
-        }))
+            amount_bound: AMOUNT_BOUND,
+        };
+        Ok(Some(Record { call, job, buffer }))
+    }
+
+    fn tables(&mut self, lengths: &[i32]) -> io::Result<[Vec<i32>; TABLES]> {
+        let mut tables = [const { Vec::new() }; TABLES];
+        for (table, length) in tables.iter_mut().zip(lengths) {
+            *table = self.table(*length)?;
+        }
+        Ok(tables)
     }
 
     fn table(&mut self, count: i32) -> io::Result<Vec<i32>> {

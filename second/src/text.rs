@@ -4,15 +4,19 @@
 use std::fmt::Write as _;
 use std::io::{self, Read};
 
-use crate::job::{Refusal, Settings, EVENT_WORDS, LAG_WORDS, MAX_EVENTS, MAX_LAGS};
+use crate::job::{
+    Refusal, AMOUNT_BOUND, CAGE_WORDS, EVENT_WORDS, LAG_WORDS, MAX_CAGES, MAX_EVENTS, MAX_LAGS,
+};
 use crate::propagator::{plan, PlanAnswer, Tally};
+use crate::raw_job::RawJob;
 
 /// The log's room in words.
 pub const TEXT_ROOM: usize = 16_000;
-/// H, Lmin, Lmax, Q, cover, n, m.
-const HEAD_NUMBERS: usize = 7;
+/// H, the cage count, n, m.
+const COUNT_NUMBERS: usize = 4;
 /// No well-formed text has more numbers than this.
-const MOST_NUMBERS: usize = HEAD_NUMBERS + EVENT_WORDS * MAX_EVENTS + LAG_WORDS * MAX_LAGS;
+const MOST_NUMBERS: usize =
+    COUNT_NUMBERS + CAGE_WORDS * MAX_CAGES + EVENT_WORDS * MAX_EVENTS + LAG_WORDS * MAX_LAGS;
 /// The number of the refusal of a text not formed as asked.
 const MALFORMED: i32 = 20;
 /// The size of the pieces that the text is read in.
@@ -21,13 +25,6 @@ const PIECE: usize = 16 * 1024;
 /// The text is not formed as asked.
 #[derive(Clone, Copy, Debug, PartialEq, Eq)]
 pub struct Malformed;
-
-/// A job as read from a text.
-struct TextJob {
-    settings: Settings,
-    windows: Vec<i32>,
-    lags: Vec<i32>,
-}
 
 /// A number being read.
 #[derive(Clone, Copy)]
@@ -106,44 +103,63 @@ impl NumberReader {
     }
 }
 
+/// Takes the parts of a job from the numbers of a text, one after another.
+struct Parts<'a> {
+    rest: &'a [i32],
+}
+
+impl Parts<'_> {
+    /// So many numbers.
+    fn take(&mut self, count: usize) -> Result<Vec<i32>, Malformed> {
+        let (taken, rest) = self.rest.split_at_checked(count).ok_or(Malformed)?;
+        self.rest = rest;
+        Ok(taken.to_vec())
+    }
+
+    fn number(&mut self) -> Result<i32, Malformed> {
+        Ok(self.take(1)?[0])
+    }
+
+    /// A number that counts things, within what the text allows of them.
+    fn count(&mut self, least: usize, most: usize) -> Result<usize, Malformed> {
+        match usize::try_from(self.number()?) {
+            Ok(count) if (least..=most).contains(&count) => Ok(count),
+            _ => Err(Malformed),
+        }
+    }
+}
+
 /// Splits the numbers into the parts of a job.
-fn job_of(numbers: &[i32]) -> Result<TextJob, Malformed> {
-    let head = numbers.get(..HEAD_NUMBERS).ok_or(Malformed)?;
-    let events = count_up_to(head[5], MAX_EVENTS)?;
-    let lags = count_up_to(head[6], MAX_LAGS)?;
-    let rest = &numbers[HEAD_NUMBERS..];
-    let window_words = events * EVENT_WORDS;
-    if rest.len() != window_words + lags * LAG_WORDS {
+fn job_of(numbers: &[i32]) -> Result<RawJob, Malformed> {
+    let mut parts = Parts { rest: numbers };
+    let horizon = parts.number()?;
+    let cages = parts.count(1, MAX_CAGES)?;
+    let cages = parts.take(cages * CAGE_WORDS)?;
+    let events = parts.count(0, MAX_EVENTS)?;
+    let lags = parts.count(0, MAX_LAGS)?;
+    let windows = parts.take(events * EVENT_WORDS)?;
+    let lags = parts.take(lags * LAG_WORDS)?;
+    if !parts.rest.is_empty() {
         return Err(Malformed);
     }
-    Ok(TextJob {
-        settings: Settings {
-            horizon: head[0],
-            lower: head[1],
-            upper: head[2],
-            opening: head[3],
-            cover: head[4],
-        },
-        windows: rest[..window_words].to_vec(),
-        lags: rest[window_words..].to_vec(),
+    Ok(RawJob {
+        horizon,
+        cages,
+        windows,
+        lags,
+        amount_bound: AMOUNT_BOUND,
     })
 }
 
-fn count_up_to(word: i32, most: usize) -> Result<usize, Malformed> {
-    match usize::try_from(word) {
-        Ok(count) if count <= most => Ok(count),
-        _ => Err(Malformed),
-    }
-}
-
 /// The lines that answer a job.
-fn answer_job(mut job: TextJob) -> String {
+fn answer_job(job: RawJob) -> String {
+    let mut windows = job.windows.clone();
     let mut buffer = vec![0; TEXT_ROOM];
-    let answer = plan(job.settings, &mut job.windows, &job.lags, &mut buffer);
+    let answer = plan(&job.settings(), &mut windows, &mut buffer);
     match answer {
-        PlanAnswer::Settled(tally) => taken("settled", tally, &job.windows),
-        PlanAnswer::Conflict(tally) => taken("conflict", tally, &job.windows),
-        PlanAnswer::Stopped(tally) => taken("stopped", tally, &job.windows),
+        PlanAnswer::Settled(tally) => taken("settled", tally, &windows),
+        PlanAnswer::Conflict(tally) => taken("conflict", tally, &windows),
+        PlanAnswer::Stopped(tally) => taken("stopped", tally, &windows),
         PlanAnswer::Refused(refusal) => refused(refusal),
     }
 }

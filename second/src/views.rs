@@ -7,7 +7,7 @@
 //! negated, the limits exchanged and negated. `Side` is that mirror.
 
 use crate::explanation::End;
-use crate::job::{Cover, Job, Window};
+use crate::job::{Cage, Cover, Job, Window};
 
 /// Which limit a rule speaks of. `Upper` sees the job in the mirror.
 #[derive(Clone, Copy, Debug, PartialEq, Eq)]
@@ -18,15 +18,15 @@ pub enum Side {
 
 impl Side {
     /// Q as this side sees it.
-    fn opening(self, job: &Job) -> i64 {
-        self.turn(job.opening)
+    fn opening(self, cage: &Cage) -> i64 {
+        self.turn(cage.opening)
     }
 
     /// Lmin as this side sees it.
-    fn limit(self, job: &Job) -> i64 {
+    fn limit(self, cage: &Cage) -> i64 {
         match self {
-            Side::Lower => job.lower,
-            Side::Upper => -job.upper,
+            Side::Lower => cage.lower,
+            Side::Upper => -cage.upper,
         }
     }
 
@@ -156,10 +156,10 @@ impl Family {
     }
 }
 
-/// A job as the rules of one family see it. Deliveries and pulls are meant as
-/// the side sees them.
+/// The cage of the event at hand as the rules of one family see it. Deliveries
+/// and pulls are meant as the side sees them.
 #[derive(Clone, Copy, Debug)]
-pub struct View {
+pub struct View<'a> {
     pub side: Side,
     /// What deliveries count by.
     pub deliveries: Order,
@@ -169,19 +169,29 @@ pub struct View {
     pub opening: i64,
     /// Lmin.
     pub limit: i64,
+    /// The events of the cage, in event order: all that a rule counts, targets
+    /// and quotes.
+    pub members: &'a [usize],
 }
 
-impl View {
-    /// The view of a family.
-    pub fn new(job: &Job, family: Family) -> View {
+impl<'a> View<'a> {
+    /// The view that a family has from event e.
+    pub fn new(job: &'a Job, family: Family, e: usize) -> View<'a> {
         let side = family.side;
+        let cage = &job.cages[job.cage_of[e]];
         View {
             side,
-            deliveries: family.delivery_order(job.cover),
+            deliveries: family.delivery_order(cage.cover),
             pulls: family.order,
-            opening: side.opening(job),
-            limit: side.limit(job),
+            opening: side.opening(cage),
+            limit: side.limit(cage),
+            members: &job.members[job.cage_of[e]],
         }
+    }
+
+    /// The events of the cage but e.
+    pub fn others(&self, e: usize) -> impl Iterator<Item = usize> + 'a {
+        self.members.iter().copied().filter(move |y| *y != e)
     }
 
     /// What an event counts by.

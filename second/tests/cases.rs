@@ -1,27 +1,32 @@
 //! The cases K1 to K11 of document 01, every word of both tables.
 
+use second::job::AMOUNT_BOUND;
 use second::{plan, read, PlanAnswer, ReadAnswer, Refusal, Settings, Tally};
 
 /// What a buffer word holds before a call.
 const JUNK: i32 = -777;
 
-/// A job of the cases: H 100, Lmin 0, Lmax 10 unless changed.
+/// A job of the cases: H 100, one cage, Lmin 0, Lmax 10 unless changed.
 #[derive(Clone)]
 struct Case {
     h: i32,
-    q: i32,
-    cover: i32,
+    cages: Vec<i32>,
     windows: Vec<i32>,
     lags: Vec<i32>,
     room: usize,
 }
 
+/// Events of four words, all put into cage 0.
+fn in_cage_0(windows: &[i32]) -> Vec<i32> {
+    let events = windows.chunks(4);
+    events.flat_map(|event| [event, &[0]].concat()).collect()
+}
+
 fn case(q: i32, windows: &[i32]) -> Case {
     Case {
         h: 100,
-        q,
-        cover: 1,
-        windows: windows.to_vec(),
+        cages: vec![0, 10, q, 1],
+        windows: in_cage_0(windows),
         lags: Vec::new(),
         room: 40,
     }
@@ -29,7 +34,13 @@ fn case(q: i32, windows: &[i32]) -> Case {
 
 impl Case {
     fn with_cover(mut self, cover: i32) -> Case {
-        self.cover = cover;
+        self.cages[3] = cover;
+        self
+    }
+
+    fn with_cages(mut self, cages: &[i32], windows: &[i32]) -> Case {
+        self.cages = cages.to_vec();
+        self.windows = windows.to_vec();
         self
     }
 
@@ -43,13 +54,12 @@ impl Case {
         self
     }
 
-    fn settings(&self) -> Settings {
+    fn settings(&self) -> Settings<'_> {
         Settings {
             horizon: self.h,
-            lower: 0,
-            upper: 10,
-            opening: self.q,
-            cover: self.cover,
+            cages: &self.cages,
+            lags: &self.lags,
+            amount_bound: AMOUNT_BOUND,
         }
     }
 
@@ -57,20 +67,25 @@ impl Case {
     fn plan(&self) -> (PlanAnswer, Vec<i32>, Vec<i32>) {
         let mut windows = self.windows.clone();
         let mut buffer = vec![JUNK; self.room];
-        let answer = plan(self.settings(), &mut windows, &self.lags, &mut buffer);
+        let answer = plan(&self.settings(), &mut windows, &mut buffer);
         (answer, windows, buffer)
     }
 
     /// The answer and the window table after the call.
     fn read(&self, list: &[i32]) -> (ReadAnswer, Vec<i32>) {
         let mut windows = self.windows.clone();
-        let answer = read(self.settings(), &mut windows, &self.lags, list);
+        let answer = read(&self.settings(), &mut windows, list);
         (answer, windows)
+    }
+
+    /// `gives_table` for windows of four words in cage 0.
+    fn gives(&self, answer: PlanAnswer, windows: &[i32], list: &[i32]) {
+        self.gives_table(answer, &in_cage_0(windows), list);
     }
 
     /// Checks all words of a call that is taken, and that the checker comes to
     /// the same windows and verdict.
-    fn gives(&self, answer: PlanAnswer, windows: &[i32], list: &[i32]) {
+    fn gives_table(&self, answer: PlanAnswer, windows: &[i32], list: &[i32]) {
         let mut buffer = list.to_vec();
         buffer.resize(self.room, JUNK);
         assert_eq!(self.plan(), (answer, windows.to_vec(), buffer));
@@ -213,6 +228,75 @@ fn a_delivery_of_its_own_minute_under_cover_0() {
     );
 }
 
+/// K1 in cage 1, K7 under cover 0 in cage 2, and a pull that cage 0's own
+/// stock serves.
+const THREE_CAGES: [i32; 12] = [0, 10, 4, 1, 0, 10, 0, 1, 0, 10, 0, 0];
+
+#[test]
+fn cages_do_not_see_one_another() {
+    let windows = [0, 30, -4, -4, 0, 5, 40, 6, 6, 1, 0, 30, -4, -4, 1];
+    case(0, &[]).with_cages(&THREE_CAGES, &windows).gives_table(
+        PlanAnswer::Settled(tally(1, 2, 16)),
+        &[0, 30, -4, -4, 0, 5, 40, 6, 6, 1, 5, 30, -4, -4, 1],
+        &[10, 2, 2, 1, 5, 2, 1, 1, 5, 2, 4, -4, 13, 1, 0, 4207],
+    );
+    // The same two events under cover 0.
+    let windows = [7, 7, 6, 6, 2, 0, 30, -4, -4, 0, 7, 7, -4, -4, 2];
+    case(0, &[]).with_cages(&THREE_CAGES, &windows).gives_table(
+        PlanAnswer::Conflict(tally(1, 1, 19)),
+        &windows,
+        &[9, 0, 0, 0, 0, 3, 0, 1, 7, 2, 2, 7, 2, 4, -4, 16, 1, 0, 4207],
+    );
+}
+
+#[test]
+fn lags_go_across_cages() {
+    let windows = [0, 10, 0, 0, 0, 0, 6, 0, 0, 2];
+    case(0, &[])
+        .with_cages(&THREE_CAGES, &windows)
+        .with_lags(&[0, 1, -2])
+        .gives_table(
+            PlanAnswer::Settled(tally(2, 2, 23)),
+            &[0, 4, 0, 0, 0, 2, 6, 0, 0, 2],
+            &[
+                1, 0, 0, 2, 4, 1, 1, 2, 6, 10, //
+                2, 0, 1, 1, 2, 1, 0, 1, 0, 10, //
+                2, 10, 4207,
+            ],
+        );
+}
+
+#[test]
+fn a_target_in_another_cage_is_16() {
+    let job = case(0, &[]).with_cages(&THREE_CAGES, &[0, 30, -9, -2, 0, 0, 30, -9, -2, 1]);
+    let list = |target: i32| [11, 0, target, 3, -4, 0, 7, 1, 0, 4207];
+    assert_eq!(job.read(&list(0)).0, ReadAnswer::Open);
+    assert_eq!(job.read(&list(1)).0, refused(16, 0));
+    assert_eq!(job.read(&list(2)).0, refused(14, 0));
+}
+
+#[test]
+fn questions_of_cages() {
+    let job = |cages: &[i32], windows: &[i32]| case(0, &[]).with_cages(cages, windows);
+    let cage = [0, 10, 0, 1];
+    job(&[], &[]).is_refused(29, 0);
+    job(&cage[..3], &[]).is_refused(29, 0);
+    job(&cage.repeat(9), &[]).is_refused(29, 0);
+    let settled = PlanAnswer::Settled(tally(0, 1, 3));
+    job(&cage.repeat(8), &[]).gives_table(settled, &[], &[0, 0, 4207]);
+    // Each question goes to all cages before the next.
+    job(&[0, 10, 0, 2, 0, 10, 11, 1], &[]).is_refused(3, 1);
+    job(&[0, 10, 11, 1, 0, 1_000_001, 0, 1], &[]).is_refused(2, 1);
+    job(&[0, 10, 0, 1, 0, 10, 0, 2], &[1]).is_refused(22, 1);
+    // 30 after 6, before 7.
+    job(&cage, &[0, 5, 0, 0, 1, 0, 5, 1, 0, 0]).is_refused(6, 1);
+    job(&cage, &[0, 5, 0, 0, 0, 0, 5, 0, 0, 1])
+        .with_lags(&[1])
+        .is_refused(30, 1);
+    job(&cage, &[0, 5, 0, 0, -1]).is_refused(30, 0);
+    job(&cage, &[0, 5, 0, 0]).is_refused(4, 0);
+}
+
 #[test]
 fn another_cover_is_22() {
     for cover in [-1, 2, i32::MIN, i32::MAX] {
@@ -246,10 +330,10 @@ fn k9_edited_lists() {
         list[place] = word;
         job.read(&list)
     };
-    assert_eq!(edited(4, 6), (refused(16, 0), K1_WINDOWS.to_vec()));
-    let left = vec![5, 40, 6, 6, 4, 30, -4, -4];
+    assert_eq!(edited(4, 6), (refused(16, 0), in_cage_0(&K1_WINDOWS)));
+    let left = in_cage_0(&[5, 40, 6, 6, 4, 30, -4, -4]);
     assert_eq!(edited(4, 4), (ReadAnswer::Open, left));
-    assert_eq!(edited(8, 6), (refused(15, 0), K1_WINDOWS.to_vec()));
+    assert_eq!(edited(8, 6), (refused(15, 0), in_cage_0(&K1_WINDOWS)));
 }
 
 #[test]
@@ -333,12 +417,11 @@ fn extreme_words_are_harmless() {
     };
     let settings = Settings {
         horizon: word,
-        lower: word,
-        upper: word,
-        opening: word,
-        cover: word,
+        cages: &[word; 4],
+        lags: &[word; 3],
+        amount_bound: AMOUNT_BOUND,
     };
-    let answer = plan(settings, &mut [word; 4], &[word; 3], &mut [word; 3]);
+    let answer = plan(&settings, &mut [word; 5], &mut [word; 3]);
     assert_eq!(answer, PlanAnswer::Refused(refusal));
 }
 
@@ -351,18 +434,20 @@ fn many_premises() {
         list.extend([7 + 3 * count as i32, 1, 0, 4207]);
         list
     };
-    assert_eq!(job.read(&list(256)), (ReadAnswer::Open, K1_LEFT.to_vec()));
+    assert_eq!(
+        job.read(&list(256)),
+        (ReadAnswer::Open, in_cage_0(&K1_LEFT))
+    );
     assert_eq!(job.read(&list(257)).0, refused(13, 0));
 }
 
 #[test]
 fn longest_creep() {
-    let mut windows = [0, 20_000, 0, 0, 0, 20_000, 0, 0];
-    let mut buffer = vec![0; 1_000_000];
-    let lags = [0, 1, 0, 1, 0, -1];
-    let mut job = case(0, &windows);
+    let mut job = case(0, &[0, 20_000, 0, 0].repeat(2))
+        .with_lags(&[0, 1, 0, 1, 0, -1])
+        .with_room(1_000_000);
     job.h = 20_000;
-    let answer = plan(job.settings(), &mut windows, &lags, &mut buffer);
+    let answer = job.plan().0;
     assert!(matches!(
         answer,
         PlanAnswer::Conflict(Tally { rounds: 10_001, .. })

@@ -3,7 +3,7 @@
 use second::answers::{answer_line, write_answers};
 use second::brute;
 use second::counts::write_counts;
-use second::raw_job::{MOST_BUFFER_WORDS, MOST_LAG_WORDS, MOST_WINDOW_WORDS};
+use second::raw_job::{MOST_BUFFER_WORDS, MOST_CAGE_WORDS, MOST_LAG_WORDS, MOST_WINDOW_WORDS};
 use second::stream::{checksum, write_stream, Call, RecordReader};
 
 fn small_stream(seed: u64) -> Vec<u8> {
@@ -24,9 +24,15 @@ fn records_keep_their_limits() {
     let mut records = RecordReader::new(bytes.as_slice());
     let (mut plans, mut reads) = (0, 0);
     while let Some(record) = records.next_record().expect("a whole stream") {
-        assert!(record.windows.len() <= MOST_WINDOW_WORDS);
-        assert!(record.lags.len() <= MOST_LAG_WORDS);
-        assert!(record.buffer.len() <= MOST_BUFFER_WORDS);
+        let most = [
+            MOST_CAGE_WORDS,
+            MOST_WINDOW_WORDS,
+            MOST_LAG_WORDS,
+            MOST_BUFFER_WORDS,
+        ];
+        for (table, most) in record.tables().iter().zip(most) {
+            assert!(table.len() <= most);
+        }
         match record.call {
             Call::Plan => plans += 1,
             Call::Read => reads += 1,
@@ -69,7 +75,7 @@ fn every_refusal_and_every_rule_is_reached() {
     write_counts(bytes.as_slice(), &mut text).expect("a whole stream");
     let text = String::from_utf8(text).expect("plain text");
     let rows = count_rows(&text);
-    let (refusals, rules) = rows.split_at(20);
+    let (refusals, rules) = rows.split_at(22);
     assert_eq!(rules.len(), 2 * 14, "{text}");
     for row in refusals {
         let by_planner = !(12..=19).contains(&row[0]);

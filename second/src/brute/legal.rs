@@ -2,7 +2,7 @@
 
 use super::MOST_EVENTS;
 use crate::explanation::End;
-use crate::job::{Cover, Job, Window};
+use crate::job::{Cage, Cover, Job, Window};
 
 /// A minute and an amount for every event; unused entries are 0.
 pub type Schedule = [(i64, i64); MOST_EVENTS];
@@ -36,32 +36,42 @@ fn assign(
     }
 }
 
-/// Do all lags hold, and both limits at every whole moment, also before the
-/// first event?
+/// Do all lags hold, and in every cage both limits at every whole moment, also
+/// before the first event?
 fn is_legal(job: &Job, schedule: &Schedule) -> bool {
-    let events = &schedule[..job.windows.len()];
-    let lags_hold = job
-        .lags
-        .iter()
-        .all(|lag| events[lag.a].0 - events[lag.b].0 <= lag.d);
-    lags_hold && (-1..=job.horizon + 1).all(|moment| limits_hold(job, events, moment))
+    lags_hold(job, schedule)
+        && (0..job.cages.len()).all(|cage| {
+            (-1..=job.horizon + 1).all(|moment| limits_hold(job, schedule, cage, moment))
+        })
 }
 
-/// Is the stock within both limits at a moment? Under cover 0 the low limit
-/// sees only deliveries strictly before it.
-fn limits_hold(job: &Job, events: &[(i64, i64)], moment: i64) -> bool {
+fn lags_hold(job: &Job, schedule: &Schedule) -> bool {
+    job.lags
+        .iter()
+        .all(|lag| schedule[lag.a].0 - schedule[lag.b].0 <= lag.d)
+}
+
+/// Is the cage's stock within both limits at a moment? Under cover 0 the low
+/// limit sees only deliveries strictly before it.
+fn limits_hold(job: &Job, schedule: &Schedule, cage: usize, moment: i64) -> bool {
+    let Cage {
+        lower,
+        upper,
+        opening,
+        cover,
+    } = job.cages[cage];
     let stock = |delivered: i64| {
-        let counts = |(minute, amount): &&(i64, i64)| {
-            *minute <= if *amount > 0 { delivered } else { moment }
-        };
-        let moved = events.iter().filter(counts).map(|(_, amount)| amount);
-        job.opening + moved.sum::<i64>()
+        let events = schedule.iter().zip(&job.cage_of);
+        let counted = events.filter(|((minute, amount), home)| {
+            **home == cage && *minute <= if *amount > 0 { delivered } else { moment }
+        });
+        opening + counted.map(|((_, amount), _)| amount).sum::<i64>()
     };
-    let low = match job.cover {
+    let low = match cover {
         Cover::SameMinute => stock(moment),
         Cover::NextMinute => stock(moment - 1),
     };
-    job.lower <= low && stock(moment) <= job.upper
+    lower <= low && stock(moment) <= upper
 }
 
 pub fn lies_inside(schedule: &Schedule, windows: &[Window]) -> bool {

@@ -10,12 +10,12 @@ mod small;
 use std::fmt;
 use std::io::{self, Write};
 
-use crate::checker::{read_within, ReadAnswer};
+use crate::checker::{read, ReadAnswer};
 use crate::explanation::{CONFLICT_KIND, TRAILER_WORDS};
 use crate::gen_lists::{decode, edit, encode, rival_list, LooseSlip};
 use crate::gen_plans::cut_room;
-use crate::job::{Job, Window, EVENT_WORDS, LAG_WORDS};
-use crate::propagator::{plan_within, PlanAnswer};
+use crate::job::{Job, Window, CAGE_WORDS, EVENT_WORDS, LAG_WORDS};
+use crate::propagator::{plan, PlanAnswer};
 use crate::raw_job::RawJob;
 use crate::rng::Rng;
 
@@ -92,13 +92,11 @@ pub fn run(seed: u64, jobs: usize, out: &mut impl Write) -> io::Result<bool> {
 }
 
 fn print_failure(raw: &RawJob, failure: &Failure, out: &mut impl Write) -> io::Result<()> {
-    let s = &raw.settings;
     writeln!(out, "failed: {}", failure.reason)?;
-    writeln!(
-        out,
-        "H {} Lmin {} Lmax {} Q {} cover {} greatest amount {BOUND}",
-        s.horizon, s.lower, s.upper, s.opening, s.cover
-    )?;
+    writeln!(out, "H {} greatest amount {BOUND}", raw.horizon)?;
+    for cage in raw.cages.chunks(CAGE_WORDS) {
+        writeln!(out, "cage {cage:?}")?;
+    }
     for window in raw.windows.chunks(EVENT_WORDS) {
         writeln!(out, "event {window:?}")?;
     }
@@ -183,12 +181,10 @@ fn only_narrowed((left, sent): (&Window, &Window)) -> bool {
 }
 
 fn check_job(rng: &mut Rng, raw: &RawJob, counts: &mut Counts) -> Result<(), Failure> {
-    let room = TRAILER_WORDS;
-    let job =
-        Job::admit(BOUND, raw.settings, &raw.windows, &raw.lags, room).map_err(|_| Failure {
-            reason: "a sound job was refused",
-            list: Vec::new(),
-        })?;
+    let job = raw.admitted().map_err(|_| Failure {
+        reason: "a sound job was refused",
+        list: Vec::new(),
+    })?;
     let all = Enumerated {
         raw,
         inside: legal_schedules(&job, &job.windows),
@@ -214,13 +210,7 @@ fn check_job(rng: &mut Rng, raw: &RawJob, counts: &mut Counts) -> Result<(), Fai
 fn check_own(all: &Enumerated, room: usize, counts: &mut Counts) -> Result<Vec<i32>, Failure> {
     let mut left = all.raw.windows.clone();
     let mut buffer = vec![0; room];
-    let answer = plan_within(
-        BOUND,
-        all.raw.settings,
-        &mut left,
-        &all.raw.lags,
-        &mut buffer,
-    );
+    let answer = plan(&all.raw.settings(), &mut left, &mut buffer);
     let (conflict, tally) = match answer {
         PlanAnswer::Settled(tally) => (false, tally),
         PlanAnswer::Conflict(tally) => (true, tally),
@@ -260,7 +250,7 @@ fn check_own(all: &Enumerated, room: usize, counts: &mut Counts) -> Result<Vec<i
 }
 
 fn check_list(all: &Enumerated, list: &[i32], windows: &mut [i32]) -> ReadAnswer {
-    read_within(BOUND, all.raw.settings, windows, &all.raw.lags, list)
+    read(&all.raw.settings(), windows, list)
 }
 
 /// Lists that the propagator did not write.

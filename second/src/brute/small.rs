@@ -1,7 +1,7 @@
 //! Small random jobs whose legal schedules can all be listed.
 
 use super::{BOUND, MOST_HORIZON};
-use crate::job::{Settings, EVENT_WORDS};
+use crate::job::{CAGE_WORDS, EVENT_WORDS};
 use crate::raw_job::RawJob;
 use crate::rng::Rng;
 
@@ -9,27 +9,26 @@ use crate::rng::Rng;
 pub fn small_job(rng: &mut Rng) -> RawJob {
     let horizon = rng.within(0, MOST_HORIZON);
     let events = rng.pick(&[0, 1, 2, 2, 2, 3, 3, 3, 3, 3, 4]);
-    let opening = rng.within(-3, 3);
-    let settings = Settings {
-        horizon: horizon as i32,
-        lower: (opening - rng.within(0, 4)) as i32,
-        upper: (opening + rng.within(0, 4)) as i32,
-        opening: opening as i32,
-        cover: rng.below(2) as i32,
-    };
-    let windows = (0..events)
-        .flat_map(|_| small_window(rng, horizon))
-        .collect();
-    let lags = small_lags(rng, events);
+    let cages = rng.pick(&[1, 1, 2, 2, 3]);
     RawJob {
-        settings,
-        windows,
-        lags,
+        horizon: horizon as i32,
+        cages: (0..cages).flat_map(|_| small_cage(rng)).collect(),
+        windows: (0..events)
+            .flat_map(|_| small_window(rng, horizon, cages))
+            .collect(),
+        lags: small_lags(rng, events),
         amount_bound: BOUND,
     }
 }
 
-fn small_window(rng: &mut Rng, horizon: i64) -> [i32; EVENT_WORDS] {
+fn small_cage(rng: &mut Rng) -> [i32; CAGE_WORDS] {
+    let opening = rng.within(-3, 3);
+    let lower = opening - rng.within(0, 4);
+    let upper = opening + rng.within(0, 4);
+    [lower, upper, opening, rng.within(0, 1)].map(|word| word as i32)
+}
+
+fn small_window(rng: &mut Rng, horizon: i64, cages: usize) -> [i32; EVENT_WORDS] {
     let (one, two) = (rng.within(0, horizon), rng.within(0, horizon));
     let (low, high) = (rng.within(1, BOUND), rng.within(1, BOUND));
     let (low, high) = (low.min(high), low.max(high));
@@ -38,7 +37,8 @@ fn small_window(rng: &mut Rng, horizon: i64) -> [i32; EVENT_WORDS] {
         1..=3 => (low, high),
         _ => (-high, -low),
     };
-    [one.min(two), one.max(two), h_min, h_max].map(|end| end as i32)
+    let cage = rng.below(cages) as i64;
+    [one.min(two), one.max(two), h_min, h_max, cage].map(|end| end as i32)
 }
 
 fn small_lags(rng: &mut Rng, events: usize) -> Vec<i32> {
