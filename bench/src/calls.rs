@@ -21,10 +21,8 @@ pub const OPEN: i32 = 3;
 /// one, buffer or list, is written by the planner alone.
 type Call<List> = unsafe extern "C" fn(
     h: i32,
-    low: i32,
-    high: i32,
-    q: i32,
-    cover: i32,
+    cages: *const i32,
+    cage_words: usize,
     table: *mut i32,
     table_words: usize,
     lags: *const i32,
@@ -39,11 +37,11 @@ type Call<List> = unsafe extern "C" fn(
 #[rustfmt::skip]
 extern "C" {
     fn orthmuzi_plan(
-        h: i32, low: i32, high: i32, q: i32, cover: i32, table: *mut i32, table_words: usize, lags: *const i32, lag_words: usize,
+        h: i32, cages: *const i32, cage_words: usize, table: *mut i32, table_words: usize, lags: *const i32, lag_words: usize,
         buffer: *mut i32, buffer_words: usize, answer: *mut i32, answer_words: usize,
     ) -> i32;
     fn orthmuzi_read(
-        h: i32, low: i32, high: i32, q: i32, cover: i32, table: *mut i32, table_words: usize, lags: *const i32, lag_words: usize,
+        h: i32, cages: *const i32, cage_words: usize, table: *mut i32, table_words: usize, lags: *const i32, lag_words: usize,
         list: *const i32, list_words: usize, answer: *mut i32, answer_words: usize,
     ) -> i32;
 }
@@ -56,16 +54,13 @@ fn answered<List>(
     list: List,
     list_words: usize,
 ) -> Answer {
-    let s = job.settings;
     let mut words = [0; 5];
     // SAFETY: each pointer and length is that of a slice lent for the call.
     let number = unsafe {
         call(
-            s.horizon,
-            s.lower,
-            s.upper,
-            s.opening,
-            s.cover,
+            job.horizon,
+            job.cages.as_ptr(),
+            job.cages.len(),
             windows.as_mut_ptr(),
             windows.len(),
             job.lags.as_ptr(),
@@ -112,7 +107,7 @@ fn refused(refusal: Refusal) -> Answer {
 
 /// The second program's planner.
 pub fn second_plan(job: &RawJob, windows: &mut [i32], buffer: &mut [i32]) -> Answer {
-    match plan(job.settings, windows, &job.lags, buffer) {
+    match plan(&job.settings(), windows, buffer) {
         PlanAnswer::Settled(tally) => taken(SETTLED, tally),
         PlanAnswer::Conflict(tally) => taken(CONFLICT, tally),
         PlanAnswer::Stopped(tally) => taken(STOPPED, tally),
@@ -127,7 +122,7 @@ pub fn second_read(job: &RawJob, windows: &mut [i32], list: &[i32]) -> Answer {
         rounds: 0,
         length: 0,
     };
-    match read(job.settings, windows, &job.lags, list) {
+    match read(&job.settings(), windows, list) {
         ReadAnswer::Open => taken(OPEN, none),
         ReadAnswer::Conflict => taken(CONFLICT, none),
         ReadAnswer::Refused(refusal) => refused(refusal),

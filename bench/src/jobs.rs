@@ -1,29 +1,48 @@
 //! The jobs that are timed.
 
-use second::job::{Settings, AMOUNT_BOUND, HORIZON_BOUND, MAX_EVENTS, MAX_LAGS};
+use second::job::{
+    AMOUNT_BOUND, CAGE_WORDS, EVENT_WORDS, HORIZON_BOUND, MAX_CAGES, MAX_EVENTS, MAX_LAGS,
+};
 use second::raw_job::RawJob;
 use second::rng::Rng;
 
-/// A job with cover 1 and an empty cage.
+/// The words of a window.
+const WINDOW_WORDS: usize = EVENT_WORDS - 1;
+
+/// A job of one cage, empty at first and with cover 1, from its windows.
 pub fn job(limits: (i32, i32), horizon: i64, windows: Vec<i32>, lags: Vec<i32>) -> RawJob {
     RawJob {
-        settings: Settings {
-            horizon: horizon as i32,
-            lower: limits.0,
-            upper: limits.1,
-            opening: 0,
-            cover: 1,
-        },
-        windows,
+        horizon: horizon as i32,
+        cages: vec![limits.0, limits.1, 0, 1],
+        windows: in_cage_0(&windows),
         lags,
         amount_bound: AMOUNT_BOUND,
     }
 }
 
+/// Windows with cage 0 behind each.
+fn in_cage_0(windows: &[i32]) -> Vec<i32> {
+    windows
+        .chunks_exact(WINDOW_WORDS)
+        .flat_map(|window| window.iter().copied().chain([0]))
+        .collect()
+}
+
 /// The same job with cover 0.
 pub fn pulled_later(job: &RawJob) -> RawJob {
     let mut job = job.clone();
-    job.settings.cover = 0;
+    job.cages[CAGE_WORDS - 1] = 0;
+    job
+}
+
+/// The same events in eight cages alike, eight neighbours in each.
+pub fn in_eight_cages(job: &RawJob) -> RawJob {
+    let mut job = job.clone();
+    job.cages = job.cages.repeat(MAX_CAGES);
+    let shared = job.events().div_ceil(MAX_CAGES);
+    for (event, words) in job.windows.chunks_exact_mut(EVENT_WORDS).enumerate() {
+        words[WINDOW_WORDS] = (event / shared) as i32;
+    }
     job
 }
 

@@ -43,7 +43,10 @@ fn main() {
         &jobs::silent(),
         Some(0.142),
     );
-    time_plan("plan: the same, tight limits", &jobs::tight(), None);
+    let tight = jobs::tight();
+    time_plan("plan: the same, tight limits", &tight, None);
+    let split = jobs::in_eight_cages(&tight);
+    time_plan("plan: the same, in eight cages", &split, None);
 
     let dense = jobs::dense();
     let settled = time_plan("plan: dense, 64 events, 256 lags", &dense, None);
@@ -83,6 +86,8 @@ fn main() {
     time_plan_in(16_000, "plan: chase, room 16,000", &chase, Some(0.41));
     let later = jobs::pulled_later(&chase);
     time_plan("plan: chase, room 1,000,000, cover 0", &later, None);
+    let split = jobs::in_eight_cages(&chase);
+    time_plan("plan: chase, room 1,000,000, eight cages", &split, None);
     for seed in families::PLAN_SEEDS {
         let name = format!("plan: hidden plan, seed {seed}");
         time_plan(&name, &families::hidden_plan(seed), Some(0.21));
@@ -91,6 +96,8 @@ fn main() {
     time_plan("plan: open amounts, small cage", &open, Some(0.23));
     let later = jobs::pulled_later(&open);
     time_plan("plan: the same, cover 0", &later, None);
+    let split = jobs::in_eight_cages(&open);
+    time_plan("plan: the same, cover 1, eight cages", &split, None);
 }
 
 /// The time that a call alone took.
