@@ -6,7 +6,7 @@ use Prim.Native.Nat.{ℕ, _+_, _*_, _≤_}
 use lib.IntN.{ℤ, pos, natAbs}
 use lib.ListN.{length, getD, take, drop}
 use Rattle.model.specs.Questions.{in-range}
-use Rattle.model.specs.Job.{Job, job}
+use Rattle.model.specs.Job.{Job}
 use Rattle.model.specs.Text.{Parsed, parsed, malformed}
 use Rattle.scanner.specs.declared.layout.Sizes.{Sizes}
 use Rattle.scanner.specs.declared.layout.Layout.{Layout}
@@ -17,25 +17,41 @@ use Rattle.scanner.specs.declared.layout.Count.the-variants.{Is, Outside
 abbrev pub at : List ℤ → ℕ → ℤ
 at ns i = getD ns i (pos 0)
 
--- z as a count, if it is in 0..most.
-unfoldable pub count-of : ℤ → ℤ → Count
-count-of z most = cond (in-range (pos 0) most z) (Is (natAbs z)) Outside
+-- z as a count, if it is in least..most.
+unfoldable pub count-of : ℤ → ℕ → ℕ → Count
+count-of z least most = cond (in-range (pos least) (pos most) z) (Is (natAbs z)) Outside
 
--- How many numbers a job of these sizes has.
+-- The number of cages.
+abbrev pub cage-count : List ℤ → Count
+cage-count ns = count-of (at ns 1) 1 8
+
+-- Where the words of the windows begin, and those of the lags; how many numbers there are in all.
+abbrev pub windows-at : Sizes → ℕ
+windows-at s = 4 + 4 * s .cages
+
+abbrev pub lags-at : Sizes → ℕ
+lags-at s = windows-at s + 5 * s .events
+
 abbrev pub numbers-of : Sizes → ℕ
-numbers-of s = 7 + 4 * s .events + 3 * s .lags
+numbers-of s = lags-at s + 3 * s .lags
 
 -- The job of these sizes in a table that begins with its numbers.
 abbrev pub job-in : List ℤ → Sizes → Job
 job-in t s =
-    job (at t 0) (at t 1) (at t 2) (at t 3) (at t 4) (take (4 * s .events) (drop 7 t)) (take (3 * s .lags) (drop (7 + 4 * s .events) t))
+    record {
+      horizon = at t 0;
+      cage-table = take (4 * s .cages) (drop 2 t);
+      window-table = take (5 * s .events) (drop (windows-at s) t);
+      lag-table = take (3 * s .lags) (drop (lags-at s) t);
+    }
 
 abbrev pub told : Layout → List ℤ → Parsed Job
 told (Fits s) t = parsed (job-in t s)
 told Malformed t = malformed
 
--- A job of at most 64 events and 256 lags, whose words are within the table.
+-- A job of at most 8 cages, 64 events and 256 lags, whose words are within the table.
 pub record Room (s : Sizes) (t : List ℤ) : Type 0 where
+  pub few-cages : s .cages ≤ 8
   pub few-events : s .events ≤ 64
   pub few-lags : s .lags ≤ 256
   pub inside : numbers-of s ≤ length t

@@ -1,7 +1,6 @@
 -- `scanner::layout::count_at` meets its contract.
 -- Assumes nothing.
 use mathlib.Core.Path.{_∙_}
-use mir.Facts.{toZ-ofZ}
 use Rattle.integers.proofs.Linear.{back32}
 use Rattle.scanner.specs.Layout.{at}
 use borrow.Author.Needs.{needs}
@@ -18,7 +17,7 @@ counted-requires : tie.Need-counted-requires
 counted-requires c κs = search needs
 
 returns : tie.Need-returns
-returns c = c .counted .ensures ∙ rw (back32 (at (c .before .before .args .numbers .now) (c .before .before .args .i)) (search), toZ-ofZ (c .before .before .fits .most))
+returns c = c .counted .ensures ∙ rw (back32 (at (c .before .before .args .numbers .now) (c .before .before .args .i)) (search))
 
 pub count-at-spec : {M : Type 1} → statement M
 count-at-spec =
