@@ -170,19 +170,19 @@ put-events-none table d at = put-none 0 d at
 
 module _ (table : List ℤ) (y : ℕ) where
   abbrev pub part : List ℤ
-  part = take (4 * y + 4 - 4 * y) (drop (4 * y) table)
+  part = take (5 * y + 4 - 5 * y) (drop (5 * y) table)
 
-  pub put-event-parts : {i j k : ℕ} {p q r : List ℕ} → 4 * y + 4 ≤ length table → Put 20 p q i j (numeral y) → Put (12 * length part + 1) q r j k (line-of part) → Put 69 p r i k (numeral y ++ line-of (take 4 (drop (4 * y) table)))
+  pub put-event-parts : {i j k : ℕ} {p q r : List ℕ} → 5 * y + 5 ≤ length table → Put 20 p q i j (numeral y) → Put (12 * length part + 1) q r j k (line-of part) → Put 69 p r i k (numeral y ++ line-of (take 4 (drop (5 * y) table)))
   put-event-parts h a b =
-      let e : 4 * y + 4 - 4 * y ≡ 4 = omega arith in
+      let e : 5 * y + 4 - 5 * y ≡ 4 = omega arith in
       let c = rw e at b in
-      put-wider (omega (arith, length-take 4 (drop (4 * y) table))) (put-then a c)
+      put-wider (omega (arith, length-take 4 (drop (5 * y) table))) (put-then a c)
 
-  pub put-events-more : {i j k : ℕ} {p q r : List ℕ} → Put (69 * y) p q i j (event-lines table y) → Put 69 q r j k (numeral y ++ line-of (take 4 (drop (4 * y) table))) → Put (69 * (y + 1)) p r i k (event-lines table (y + 1))
+  pub put-events-more : {i j k : ℕ} {p q r : List ℕ} → Put (69 * y) p q i j (event-lines table y) → Put 69 q r j k (numeral y ++ line-of (take 4 (drop (5 * y) table))) → Put (69 * (y + 1)) p r i k (event-lines table (y + 1))
   unfolding event-lines
   put-events-more a b =
       put-wider (omega arith)
-      (put-as (rw (add-one y) (sym (append-assoc (event-lines table y) (numeral y) (line-of (take 4 (drop (4 * y) table)))))) (put-then a b))
+      (put-as (rw (add-one y) (sym (append-assoc (event-lines table y) (numeral y) (line-of (take 4 (drop (5 * y) table)))))) (put-then a b))
 
 -- ---- the whole output
 

@@ -126,12 +126,12 @@ fn put_line(out: &mut [u8], at: usize, words: &[i32]) -> usize
     put(out, next, 10)
 }
 
-// An event's number and four words.
+// An event's number and the four words of its windows.
 fn put_event(out: &mut [u8], at: usize, table: &[i32], y: usize) -> usize
-    requires { ⌜ (at + 69 ≤ length (now out)) × (4 * y + 4 ≤ length (now table)) ⌝ }
-    ensures { λ r. ⌜ Put 69 (now (out .entry)) (now (out .exit)) at r (numeral y ++ line-of (take 4 (drop (4 * y) (now (table .entry))))) ⌝ }
+    requires { ⌜ (at + 69 ≤ length (now out)) × (5 * y + 5 ≤ length (now table)) ⌝ }
+    ensures { λ r. ⌜ Put 69 (now (out .entry)) (now (out .exit)) at r (numeral y ++ line-of (take 4 (drop (5 * y) (now (table .entry))))) ⌝ }
 {
-    let first = 4 * y;
+    let first = 5 * y;
     let last = first + 4;
     let next = put_numeral(out, at, y);
     put_line(out, next, &table[first..last])
@@ -139,7 +139,7 @@ fn put_event(out: &mut [u8], at: usize, table: &[i32], y: usize) -> usize
 
 // The lines of the first n events.
 fn put_events(out: &mut [u8], at: usize, table: &[i32], n: usize) -> usize
-    requires { ⌜ (at + 69 * n ≤ length (now out)) × (4 * n ≤ length (now table)) ⌝ }
+    requires { ⌜ (at + 69 * n ≤ length (now out)) × (5 * n ≤ length (now table)) ⌝ }
     ensures { λ r. ⌜ Put (69 * n) (now (out .entry)) (now (out .exit)) at r (event-lines (now (table .entry)) n) ⌝ }
 {
     let mut next = at;
@@ -151,14 +151,14 @@ fn put_events(out: &mut [u8], at: usize, table: &[i32], n: usize) -> usize
     next
 }
 
-// The verdict's name with slips and rounds, then each event's number and four words.
+// The verdict's name with slips and rounds, then each event's number and the four words of its windows.
 // It rules out a program that loses digits (digit_lost) and one that numbers events otherwise (event_by_place).
 pub fn print_done(out: &mut [u8], name: &[u8], slips: usize, rounds: usize, table: &[i32]) -> usize
-    requires { ⌜ (length (now name) ≤ 8) × (length (now table) ≤ 256) × (8192 ≤ length (now out)) ⌝ }
-    ensures { λ r. ⌜ Printed (now (out .exit)) r (headline (now (name .entry)) slips rounds ++ event-lines (now (table .entry)) (length (now (table .entry)) / 4)) ⌝ }
+    requires { ⌜ (length (now name) ≤ 8) × (length (now table) ≤ 320) × (8192 ≤ length (now out)) ⌝ }
+    ensures { λ r. ⌜ Printed (now (out .exit)) r (headline (now (name .entry)) slips rounds ++ event-lines (now (table .entry)) (length (now (table .entry)) / 5)) ⌝ }
 {
     let at = put_headline(out, name, slips, rounds);
-    put_events(out, at, table, table.len() / 4)
+    put_events(out, at, table, table.len() / 5)
 }
 
 // "refused", number, place.
