@@ -1,6 +1,6 @@
 // Runs the cases that standard input holds, one after the other, and prints each with its words.
 // A case is a line that names it, with a number sign in front, then numbers in the layout of a stream's record (`second/README.md`):
-// 1 planner or 2 reader, H, Lmin, Lmax, Q, cover, the words of the window table, of the lag table, of the buffer or list; then these words.
+// 1 planner or 2 reader, H, the words of the cage table, of the window table, of the lag table, of the buffer or list; then these words.
 mod print;
 
 use print::judged;
@@ -46,18 +46,15 @@ fn copy(from: &[i32], start: usize, to: &mut [i32])
 }
 
 // The call itself. What the planner writes is printed as the list, then what it leaves as it was, then what the reader says of that list.
-fn call(numbers: &[i32; 1030], table: &mut [i32], lags: &[i32], list: &mut [i32]) {
+fn call(
+    numbers: &[i32; 1030],
+    cages: &[i32],
+    table: &mut [i32],
+    lags: &[i32],
+    list: &mut [i32],
+) {
     if numbers[0] == 1 {
-        let checked = reservoir::plan_and_read(
-            numbers[1],
-            numbers[2],
-            numbers[3],
-            numbers[4],
-            numbers[5],
-            table,
-            lags,
-            list,
-        );
+        let checked = reservoir::plan_and_read(numbers[1], cages, table, lags, list);
         let answer = checked.answer;
         let judgement = checked.judgement;
         let length = planned(answer);
@@ -70,44 +67,48 @@ fn call(numbers: &[i32; 1030], table: &mut [i32], lags: &[i32], list: &mut [i32]
         judged(judgement);
         return;
     }
-    let judgement = checker::check(
-        numbers[1],
-        numbers[2],
-        numbers[3],
-        numbers[4],
-        numbers[5],
-        table,
-        lags,
-        list,
-    );
+    let judgement = checker::check(numbers[1], cages, table, lags, list);
     judged(judgement);
     windows(table);
     line(b"list", list);
 }
 
-// A case's three tables, cut out of its numbers.
-fn cut(numbers: &[i32; 1030], table: &mut [i32], lags: &mut [i32], list: &mut [i32])
-    requires { ⌜ 9 + length (now table) + length (now lags) + length (now list) ≤ 1030 ⌝ }
+// A case's four tables, cut out of its numbers.
+fn cut(
+    numbers: &[i32; 1030],
+    cages: &mut [i32],
+    table: &mut [i32],
+    lags: &mut [i32],
+    list: &mut [i32],
+)
+    requires { ⌜ 6 + length (now cages) + length (now table) + length (now lags) + length (now list) ≤ 1030 ⌝ }
 {
-    let g = 9 + table.len();
+    let w = 6 + cages.len();
+    let g = w + table.len();
     let b = g + lags.len();
-    copy(numbers, 9, table);
+    copy(numbers, 6, cages);
+    copy(numbers, w, table);
     copy(numbers, g, lags);
     copy(numbers, b, list);
-    call(numbers, table, lags, list);
+    call(numbers, cages, table, lags, list);
 }
 
-// A case of n numbers, which has to be its header and three tables that fit the ones lent here.
+// A case of n numbers, which has to be its header and four tables that fit the ones lent here.
 fn sized(
     numbers: &[i32; 1030],
     n: usize,
+    cages: &mut [i32],
     table: &mut [i32],
     lags: &mut [i32],
     list: &mut [i32],
 ) -> bool {
-    let w = size(numbers[6]);
-    let g = size(numbers[7]);
-    let b = size(numbers[8]);
+    let c = size(numbers[2]);
+    let w = size(numbers[3]);
+    let g = size(numbers[4]);
+    let b = size(numbers[5]);
+    if cages.len() < c {
+        return false;
+    }
     if table.len() < w {
         return false;
     }
@@ -120,10 +121,16 @@ fn sized(
     if 1030 < n {
         return false;
     }
-    if n != 9 + w + g + b {
+    if n != 6 + c + w + g + b {
         return false;
     }
-    cut(numbers, &mut table[..w], &mut lags[..g], &mut list[..b]);
+    cut(
+        numbers,
+        &mut cages[..c],
+        &mut table[..w],
+        &mut lags[..g],
+        &mut list[..b],
+    );
     true
 }
 
@@ -136,10 +143,13 @@ fn case(name: &[u8], words: &[u8]) {
         say(b"not a case\n");
         return;
     };
-    let mut table = [0i32; 300];
+    let mut cages = [0i32; 40];
+    let mut table = [0i32; 360];
     let mut lags = [0i32; 800];
     let mut list = [0i32; 1000];
-    if !sized(&numbers, n, &mut table, &mut lags, &mut list) {
+    if !sized(
+        &numbers, n, &mut cages, &mut table, &mut lags, &mut list,
+    ) {
         say(b"not a case\n");
     }
 }

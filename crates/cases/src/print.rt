@@ -33,15 +33,15 @@ pub fn line(title: &[u8], words: &[i32]) {
     say(b"\n");
 }
 
-// Each event's number and four words, a line each.
+// Each event's number and five words, a line each.
 pub fn windows(table: &[i32]) {
     let mut left = table.len();
     let mut y: usize = 0;
-    while 4 <= left {
+    while 5 <= left {
         let at = table.len() - left;
         io::print_decimal(1, y as u64);
-        line(b"", &table[at..at + 4]);
-        left -= 4;
+        line(b"", &table[at..at + 5]);
+        left -= 5;
         y += 1;
     }
 }

@@ -67,7 +67,8 @@ fn call(
     out: &mut [u8; 65536],
     at: usize,
     kind: i32,
-    head: &[i32; 8],
+    h: i32,
+    cages: &[i32],
     table: &mut [i32],
     lags: &[i32],
     list: &mut [i32],
@@ -76,28 +77,10 @@ fn call(
     ensures { λ r. ⌜ r ≤ 65536 ⌝ }
 {
     if kind == 1 {
-        let answer = propagator::plans::plan(
-            head[0],
-            head[1],
-            head[2],
-            head[3],
-            head[4],
-            table,
-            lags,
-            list,
-        );
+        let answer = propagator::plans::plan(h, cages, table, lags, list);
         return planned(out, at, answer);
     }
-    let judgement = checker::check(
-        head[0],
-        head[1],
-        head[2],
-        head[3],
-        head[4],
-        table,
-        lags,
-        list,
-    );
+    let judgement = checker::check(h, cages, table, lags, list);
     judged(out, at, judgement)
 }
 
@@ -105,7 +88,8 @@ pub fn answer(
     out: &mut [u8; 65536],
     at: usize,
     kind: i32,
-    head: &[i32; 8],
+    h: i32,
+    cages: &[i32],
     table: &mut [i32],
     lags: &[i32],
     list: &mut [i32],
@@ -113,7 +97,7 @@ pub fn answer(
     requires { ⌜ at ≤ 65536 ⌝ }
     ensures { λ r. ⌜ r ≤ 65536 ⌝ }
 {
-    let o = call(out, at, kind, head, table, lags, list);
+    let o = call(out, at, kind, h, cages, table, lags, list);
     let o = number(out, o, checksum(table));
     let o = number(out, o, checksum(list));
     put(out, o, b'\n')

@@ -65,13 +65,14 @@ pub fn fill(piece: &mut [u8; 65536], from: Input, table: &mut [i32]) -> Filled {
     Filled::All(input)
 }
 
-// A record's three tables, one after the other.
-pub fn fill_three(
+// A record's four tables, one after the other.
+pub fn fill_four(
     piece: &mut [u8; 65536],
     from: Input,
     first: &mut [i32],
     second: &mut [i32],
     third: &mut [i32],
+    fourth: &mut [i32],
 ) -> Filled {
     let filled = fill(piece, from, first);
     let Filled::All(input) = filled else {
@@ -81,5 +82,9 @@ pub fn fill_three(
     let Filled::All(input) = filled else {
         return Filled::Cut;
     };
-    fill(piece, input, third)
+    let filled = fill(piece, input, third);
+    let Filled::All(input) = filled else {
+        return Filled::Cut;
+    };
+    fill(piece, input, fourth)
 }

@@ -1,5 +1,5 @@
 // Answers a stream of records, a line each, just as the second program's `answers` does. `.ci/run` compares the two on a large stream;
-// the stored `stdin` is `second stream 597 40 160`, in which the reader refuses by each of its numbers, and the two by every number that both ask.
+// the stored `stdin` is `second stream 920 40 160`, in which the reader refuses by each of its numbers, and the two by every number that both ask.
 // A record beyond the limits, an unknown one, or a stream cut short ends the program with a line that says so.
 mod answers;
 mod input;
@@ -11,7 +11,7 @@ use input::Filled;
 use input::Input;
 use input::Next;
 use input::fill;
-use input::fill_three;
+use input::fill_four;
 use input::take_word;
 use lines::flush;
 use lines::text;
@@ -47,13 +47,14 @@ fn size(x: i32) -> usize {
     x as usize
 }
 
-// The three tables of a record, whose lengths are known to be within the limits.
+// The four tables of a record, whose lengths are known to be within the limits.
 fn record(
     piece: &mut [u8; 65536],
     out: &mut [u8; 65536],
     s: State,
     kind: i32,
-    head: &[i32; 8],
+    head: &[i32; 5],
+    cages: &mut [i32],
     table: &mut [i32],
     lags: &mut [i32],
     list: &mut [i32],
@@ -62,11 +63,11 @@ fn record(
     ensures { λ r. ⌜ r .at ≤ 65536 ⌝ }
 {
     let input = s.input;
-    let filled = fill_three(piece, input, table, lags, list);
+    let filled = fill_four(piece, input, cages, table, lags, list);
     let Filled::All(input) = filled else {
         return stop(out, s, b"the stream is cut short\n");
     };
-    let o = answer(out, s.at, kind, head, table, lags, list);
+    let o = answer(out, s.at, kind, head[0], cages, table, lags, list);
     State {
         input: input,
         at: o,
@@ -80,7 +81,8 @@ fn sized(
     out: &mut [u8; 65536],
     s: State,
     kind: i32,
-    head: &[i32; 8],
+    head: &[i32; 5],
+    cages: &mut [i32],
     table: &mut [i32],
     lags: &mut [i32],
     list: &mut [i32],
@@ -88,15 +90,19 @@ fn sized(
     requires { ⌜ s .at ≤ 65536 ⌝ }
     ensures { λ r. ⌜ r .at ≤ 65536 ⌝ }
 {
-    let w = size(head[5]);
+    let c = size(head[1]);
+    if cages.len() < c {
+        return stop(out, s, b"a cage table is too long\n");
+    }
+    let w = size(head[2]);
     if table.len() < w {
         return stop(out, s, b"a window table is too long\n");
     }
-    let g = size(head[6]);
+    let g = size(head[3]);
     if lags.len() < g {
         return stop(out, s, b"a lag table is too long\n");
     }
-    let b = size(head[7]);
+    let b = size(head[4]);
     if list.len() < b {
         return stop(out, s, b"a list is too long\n");
     }
@@ -106,6 +112,7 @@ fn sized(
         s,
         kind,
         head,
+        &mut cages[..c],
         &mut table[..w],
         &mut lags[..g],
         &mut list[..b],
@@ -120,7 +127,8 @@ fn step(
     piece: &mut [u8; 65536],
     out: &mut [u8; 65536],
     s: State,
-    table: &mut [i32; 300],
+    cages: &mut [i32; 40],
+    table: &mut [i32; 360],
     lags: &mut [i32; 800],
     list: &mut [i32; 20000],
 ) -> State
@@ -138,7 +146,7 @@ fn step(
     if !is_call(kind) {
         return stop(out, s, b"an unknown kind of record\n");
     }
-    let mut head = [0i32; 8];
+    let mut head = [0i32; 5];
     let filled = fill(piece, input, &mut head);
     let Filled::All(input) = filled else {
         return stop(out, s, b"the stream is cut short\n");
@@ -148,13 +156,14 @@ fn step(
         at: s.at,
         more: true,
     };
-    sized(piece, out, s, kind, &head, table, lags, list)
+    sized(piece, out, s, kind, &head, cages, table, lags, list)
 }
 
 fn main() {
     let mut piece = io::large_buffer();
     let mut out = io::large_buffer();
-    let mut table = [0i32; 300];
+    let mut cages = [0i32; 40];
+    let mut table = [0i32; 360];
     let mut lags = [0i32; 800];
     let mut list = [0i32; 20000];
     let mut s = State {
@@ -164,7 +173,9 @@ fn main() {
     };
     let mut turns = u64::MAX;
     while turns > 0 && s.more {
-        s = step(&mut piece, &mut out, s, &mut table, &mut lags, &mut list);
+        s = step(
+            &mut piece, &mut out, s, &mut cages, &mut table, &mut lags, &mut list,
+        );
         turns -= 1;
     }
 }

@@ -26,6 +26,12 @@ element-copy-out-size-3 c = search needs
 size-requires-3 : tie.Need-size-requires-3
 size-requires-3 c κs = search needs
 
+element-copy-out-size-4 : tie.Need-element-copy-out-size-4
+element-copy-out-size-4 c = search needs
+
+size-requires-4 : tie.Need-size-requires-4
+size-requires-4 c κs = search needs
+
 returns : tie.Need-returns
 returns c = search needs
 
@@ -38,17 +44,23 @@ returns-3 c = search needs
 returns-4 : tie.Need-returns-4
 returns-4 c = search needs
 
-add-if5 : tie.Need-add-if5
-add-if5 c = search needs
-
-add-if5-2 : tie.Need-add-if5-2
-add-if5-2 c = search needs
-
-add-if5-3 : tie.Need-add-if5-3
-add-if5-3 c = search needs
-
 returns-5 : tie.Need-returns-5
 returns-5 c = search needs
+
+add-if6 : tie.Need-add-if6
+add-if6 c = search needs
+
+add-if6-2 : tie.Need-add-if6-2
+add-if6-2 c = search needs
+
+add-if6-3 : tie.Need-add-if6-3
+add-if6-3 c = search needs
+
+add-if6-4 : tie.Need-add-if6-4
+add-if6-4 c = search needs
+
+returns-6 : tie.Need-returns-6
+returns-6 c = search needs
 
 slice-relend-prefix-cut : tie.Need-slice-relend-prefix-cut
 slice-relend-prefix-cut c = search needs
@@ -68,6 +80,12 @@ slice-relend-prefix-cut-3 c = search needs
 slice-aggregate-cut-3 : tie.Need-slice-aggregate-cut-3
 slice-aggregate-cut-3 c = sym (length-take-le _ _ (search needs))
 
+slice-relend-prefix-cut-4 : tie.Need-slice-relend-prefix-cut-4
+slice-relend-prefix-cut-4 c = search needs
+
+slice-aggregate-cut-4 : tie.Need-slice-aggregate-cut-4
+slice-aggregate-cut-4 c = sym (length-take-le _ _ (search needs))
+
 cut-requires : tie.Need-cut-requires
 cut-requires c κs = simp length-take (omega arith)
 
@@ -80,8 +98,11 @@ same-length-2 c = search needs
 same-length-3 : tie.Need-same-length-3
 same-length-3 c = search needs
 
-returns-6 : tie.Need-returns-6
-returns-6 c = search needs
+same-length-4 : tie.Need-same-length-4
+same-length-4 c = search needs
+
+returns-7 : tie.Need-returns-7
+returns-7 c = search needs
 
 pub sized-spec : {M : Type 1} → statement M
 sized-spec =
@@ -93,22 +114,29 @@ sized-spec =
     size-requires-2
     element-copy-out-size-3
     size-requires-3
+    element-copy-out-size-4
+    size-requires-4
     returns
     returns-2
     returns-3
     returns-4
-    add-if5
-    add-if5-2
-    add-if5-3
     returns-5
+    add-if6
+    add-if6-2
+    add-if6-3
+    add-if6-4
+    returns-6
     slice-relend-prefix-cut
     slice-aggregate-cut
     slice-relend-prefix-cut-2
     slice-aggregate-cut-2
     slice-relend-prefix-cut-3
     slice-aggregate-cut-3
+    slice-relend-prefix-cut-4
+    slice-aggregate-cut-4
     cut-requires
     same-length
     same-length-2
     same-length-3
-    returns-6)
+    same-length-4
+    returns-7)

@@ -51,6 +51,21 @@ stop-requires-3 c κs = search needs
 returns-3 : tie.Need-returns-3
 returns-3 c = search needs
 
+element-copy-out-size-4 : tie.Need-element-copy-out-size-4
+element-copy-out-size-4 c = search needs
+
+size-requires-4 : tie.Need-size-requires-4
+size-requires-4 c κs = search needs
+
+slice-aggregate-stop-4 : tie.Need-slice-aggregate-stop-4
+slice-aggregate-stop-4 c = search needs
+
+stop-requires-4 : tie.Need-stop-requires-4
+stop-requires-4 c κs = search needs
+
+returns-4 : tie.Need-returns-4
+returns-4 c = search needs
+
 slice-relend-prefix-record : tie.Need-slice-relend-prefix-record
 slice-relend-prefix-record c = search needs
 
@@ -69,6 +84,12 @@ slice-relend-prefix-record-3 c = search needs
 slice-aggregate-record-3 : tie.Need-slice-aggregate-record-3
 slice-aggregate-record-3 c = sym (length-take-le _ _ (search needs))
 
+slice-relend-prefix-record-4 : tie.Need-slice-relend-prefix-record-4
+slice-relend-prefix-record-4 c = search needs
+
+slice-aggregate-record-4 : tie.Need-slice-aggregate-record-4
+slice-aggregate-record-4 c = sym (length-take-le _ _ (search needs))
+
 record-requires : tie.Need-record-requires
 record-requires c κs = search needs
 
@@ -81,8 +102,11 @@ same-length-2 c = search needs
 same-length-3 : tie.Need-same-length-3
 same-length-3 c = search needs
 
-returns-4 : tie.Need-returns-4
-returns-4 c = search needs
+same-length-4 : tie.Need-same-length-4
+same-length-4 c = search needs
+
+returns-5 : tie.Need-returns-5
+returns-5 c = search needs
 
 pub sized-spec : {M : Type 1} → statement M
 sized-spec =
@@ -103,14 +127,22 @@ sized-spec =
     slice-aggregate-stop-3
     stop-requires-3
     returns-3
+    element-copy-out-size-4
+    size-requires-4
+    slice-aggregate-stop-4
+    stop-requires-4
+    returns-4
     slice-relend-prefix-record
     slice-aggregate-record
     slice-relend-prefix-record-2
     slice-aggregate-record-2
     slice-relend-prefix-record-3
     slice-aggregate-record-3
+    slice-relend-prefix-record-4
+    slice-aggregate-record-4
     record-requires
     same-length
     same-length-2
     same-length-3
-    returns-4)
+    same-length-4
+    returns-5)

@@ -7,7 +7,7 @@ use Rattle.cases.proofs.print.windows.Statement.{statement}
 use Rattle.cases.proofs.print.windows.Tie as tie
 
 abbrev Inv-loop : tie.InvT-loop
-Inv-loop table left₀ y₀ t5 left y = (left ≤ length table) × (4 * y + left ≤ length table)
+Inv-loop table left₀ y₀ t5 left y = (left ≤ length table) × (5 * y + left ≤ length table)
 
 abbrev μ-loop : tie.MeasureT-loop
 μ-loop table left₀ y₀ t5 left y = left
