@@ -1,12 +1,12 @@
--- The answer to a call's questions, read as the papers' number and place; the questions that go to each event or lag, by number.
+-- The answer to a call's questions, read as the papers' number and place; the questions that go to each cage, event or lag, by number.
 use mathlib.Core.Bool.{Bool, cond}
 use mathlib.Core.List.{List}
 use Prim.Native.Nat.{ℕ}
 use lib.Dec.{eqb}
 use lib.IntN.{ℤ}
-use Rattle.model.specs.Job.{Windows}
+use Rattle.model.specs.Job.{windows, cage-at}
 use Rattle.model.specs.Questions as model
-use Rattle.model.specs.Questions.{times-right, heights-right, lag-events, lag-differs, lag-in-range}
+use Rattle.model.specs.Questions.{limits-right, stock-right, cover-right, times-right, heights-right, cage-right, lag-events, lag-differs, lag-in-range}
 use Rattle.questions.specs.declared.Check.{Check}
 use Rattle.questions.specs.declared.Check.the-variants.{Pass, Refuse}
 
@@ -15,9 +15,15 @@ abbrev pub check-of : Check → model.Check
 check-of Pass = model.pass
 check-of (Refuse r) = model.refuse (r .number) (r .place)
 
--- Questions 5 and 6 to event y.
-abbrev pub event-right : ℕ → ℤ → Windows → ℕ → Bool
-event-right q h W y = cond (eqb q 5) (times-right h W y) (heights-right W y)
+-- Questions 2, 3 and 22 to cage c of a table's words.
+abbrev pub cage-asked : ℕ → List ℤ → ℕ → Bool
+cage-asked q ws c =
+    cond (eqb q 2) (limits-right (cage-at ws c)) (cond (eqb q 3) (stock-right (cage-at ws c)) (cover-right (cage-at ws c)))
+
+-- Questions 5, 6 and 30 to event y of a window table, in a job of k cages.
+abbrev pub event-right : ℕ → ℤ → ℕ → List ℤ → ℕ → Bool
+event-right q h k table y =
+    cond (eqb q 5) (times-right h (windows table) y) (cond (eqb q 6) (heights-right (windows table) y) (cage-right k table y))
 
 -- Questions 8, 9 and 10 to lag g of a table's words, in a job of n events.
 abbrev pub lag-right : ℕ → ℕ → List ℤ → ℕ → Bool

@@ -1,21 +1,11 @@
-// Questions 1 to 11 and 22, which planner and reader both put to a call, in order; words are only compared, so that any word is harmless.
+// Questions 1 to 11, 22, 29 and 30, which planner and reader both put to a call, in order; words are only compared, so that any word is harmless.
 use crate::Check;
-use crate::LEAST_ROOM;
-use crate::MOST_ROOM;
 use crate::Refusal;
 use tables::Height;
-use tables::Job;
-use tables::LEAST_AMOUNT;
-use tables::LEAST_LEVEL;
-use tables::LEAST_MINUTES;
-use tables::MOST_AMOUNT;
-use tables::MOST_LAG_WORDS;
-use tables::MOST_LEVEL;
-use tables::MOST_MINUTES;
-use tables::MOST_WINDOW_WORDS;
 use tables::Reservoir;
 use tables::Time;
 use tables::Word;
+use tables::cage_at;
 ghost use mathlib.Core.Path.{_≡_};
 ghost use mathlib.Core.Bool.{not, _&&_, _||_};
 ghost use Prim.Native.Nat.{_+_, _*_, _%_, _<_, _≤_};
@@ -23,10 +13,10 @@ ghost use lib.Dec.{eqb, leb};
 ghost use lib.IntN.{pos, negsuc};
 ghost use lib.Signed.{leZ, ltZ};
 ghost use Rattle.integers.specs.Range.{eqZ};
-ghost use Rattle.model.specs.Job.{windows, Job as Call};
-ghost use Rattle.model.specs.Questions.{ask, each, refuse, in-range, horizon-right, limit-in-range, limits-right, stock-right, cover-right, times-right, heights-right, lag-events, lag-differs, lag-in-range, room-right, cage-questions, window-questions, lag-questions, own-questions, questions};
-ghost use Rattle.tables.specs.Job.{reservoir-of, Holds};
-ghost use Rattle.questions.specs.Asked.{check-of, event-right, lag-right};
+ghost use Rattle.model.specs.Job.{windows};
+ghost use Rattle.model.specs.Questions.{ask, each, refuse, in-range, horizon-right, limit-in-range, limits-right, stock-right, cover-right, cages-whole, times-right, heights-right, cage-right, lag-events, lag-differs, lag-in-range, room-right, cage-questions, window-questions, lag-questions, own-questions, questions};
+ghost use Rattle.tables.specs.Job.{reservoir-of, call};
+ghost use Rattle.questions.specs.Asked.{check-of, cage-asked, event-right, lag-right};
 
 // Refused with a question's number and place.
 fn refuse(number: usize, place: usize) -> Check
@@ -77,10 +67,10 @@ pub fn is_event(w: i32, n: i32) -> bool
 fn one_sign(low: i32, high: i32) -> bool
     ensures { λ r. ⌜ r ≡ ((leZ (pos 1) low && leZ high (pos 9999)) || (leZ (negsuc 9998) low && leZ high (negsuc 0)) || (leZ (pos 0) low && leZ high (pos 0))) ⌝ }
 {
-    if spans(low, high, 1, MOST_AMOUNT) {
+    if spans(low, high, 1, 9999) {
         return true;
     }
-    if spans(low, high, LEAST_AMOUNT, -1) {
+    if spans(low, high, -9999, -1) {
         return true;
     }
     spans(low, high, 0, 0)
@@ -94,18 +84,18 @@ fn whole(len: usize, size: usize, most: usize) -> bool
     len % size == 0 && len <= most
 }
 
-// ---- questions to the horizon and the cage
+// ---- questions to the horizon and to one cage
 
 fn horizon_right(h: Time) -> bool
     ensures { λ r. ⌜ r ≡ horizon-right (h .0) ⌝ }
 {
-    between(h.0, 0, MOST_MINUTES)
+    between(h.0, 0, 20000)
 }
 
 fn limit_in_range(x: Height) -> bool
     ensures { λ r. ⌜ r ≡ limit-in-range (x .0) ⌝ }
 {
-    between(x.0, LEAST_LEVEL, MOST_LEVEL)
+    between(x.0, -1000000, 1000000)
 }
 
 fn limits_right(c: Reservoir) -> bool
@@ -144,32 +134,59 @@ fn cover_right(c: Reservoir) -> bool
     is_cover(c.cover)
 }
 
+// Question 2, 3 or 22 to cage c.
+fn cage_asked(q: usize, cages: &[i32], c: usize) -> bool
+    requires { do ⌜ 4 * c + 4 ≤ (← ⟦cages.len()⟧) ⌝ }
+    ensures { λ r. ⌜ r ≡ cage-asked q (now (cages .entry)) c ⌝ }
+{
+    let cage = cage_at(cages, c);
+    if q == 2 {
+        return limits_right(cage);
+    }
+    if q == 3 {
+        return stock_right(cage);
+    }
+    cover_right(cage)
+}
+
 // ---- questions to one event
 
 fn times_right(h: Time, table: &[i32], y: usize) -> bool
-    requires { do ⌜ 4 * y + 4 ≤ (← ⟦table.len()⟧) ⌝ }
+    requires { do ⌜ 5 * y + 5 ≤ (← ⟦table.len()⟧) ⌝ }
     ensures { λ r. ⌜ r ≡ times-right (h .0) (windows (now (table .entry))) y ⌝ }
 {
-    rising(table[4 * y], table[4 * y + 1], h.0)
+    rising(table[5 * y], table[5 * y + 1], h.0)
 }
 
 fn heights_right(table: &[i32], y: usize) -> bool
-    requires { do ⌜ 4 * y + 4 ≤ (← ⟦table.len()⟧) ⌝ }
+    requires { do ⌜ 5 * y + 5 ≤ (← ⟦table.len()⟧) ⌝ }
     ensures { λ r. ⌜ r ≡ heights-right (windows (now (table .entry))) y ⌝ }
 {
-    let low = table[4 * y + 2];
-    let high = table[4 * y + 3];
+    let low = table[5 * y + 2];
+    let high = table[5 * y + 3];
     one_sign(low, high) && low <= high
 }
 
-fn event_right(q: usize, h: Time, table: &[i32], y: usize) -> bool
-    requires { do ⌜ 4 * y + 4 ≤ (← ⟦table.len()⟧) ⌝ }
-    ensures { λ r. ⌜ r ≡ event-right q (h .0) (windows (now (table .entry))) y ⌝ }
+// The event's cage is one of so many.
+fn cage_right(cages: usize, table: &[i32], y: usize) -> bool
+    requires { do ⌜ (cages ≤ 8) × (5 * y + 5 ≤ (← ⟦table.len()⟧)) ⌝ }
+    ensures { λ r. ⌜ r ≡ cage-right cages (now (table .entry)) y ⌝ }
+{
+    is_event(table[5 * y + 4], cages as i32)
+}
+
+// Question 5, 6 or 30 to event y.
+fn event_right(q: usize, h: Time, cages: usize, table: &[i32], y: usize) -> bool
+    requires { do ⌜ (cages ≤ 8) × (5 * y + 5 ≤ (← ⟦table.len()⟧)) ⌝ }
+    ensures { λ r. ⌜ r ≡ event-right q (h .0) cages (now (table .entry)) y ⌝ }
 {
     if q == 5 {
         return times_right(h, table, y);
     }
-    heights_right(table, y)
+    if q == 6 {
+        return heights_right(table, y);
+    }
+    cage_right(cages, table, y)
 }
 
 // ---- questions to one lag
@@ -193,7 +210,7 @@ fn lag_in_range(lags: &[i32], g: usize) -> bool
     requires { do ⌜ 3 * g + 3 ≤ (← ⟦lags.len()⟧) ⌝ }
     ensures { λ r. ⌜ r ≡ lag-in-range (now (lags .entry)) g ⌝ }
 {
-    between(lags[3 * g + 2], LEAST_MINUTES, MOST_MINUTES)
+    between(lags[3 * g + 2], -20000, 20000)
 }
 
 fn lag_right(q: usize, n: usize, lags: &[i32], g: usize) -> bool
@@ -211,14 +228,30 @@ fn lag_right(q: usize, n: usize, lags: &[i32], g: usize) -> bool
 
 // ---- a question to all
 
-// Question q, 5 or 6, to the n events in order.
-fn each_event(q: usize, h: Time, table: &[i32], n: usize) -> Check
-    requires { do ⌜ 4 * n ≤ (← ⟦table.len()⟧) ⌝ }
-    ensures { λ r. ⌜ check-of r ≡ each q (event-right q (h .0) (windows (now (table .entry)))) 0 n ⌝ }
+// Question q, 2, 3 or 22, to the n cages in order.
+fn each_cage(q: usize, cages: &[i32], n: usize) -> Check
+    requires { do ⌜ 4 * n ≤ (← ⟦cages.len()⟧) ⌝ }
+    ensures { λ r. ⌜ check-of r ≡ each q (cage-asked q (now (cages .entry))) 0 n ⌝ }
+{
+    let mut c: usize = 0;
+    while c < n {
+        if cage_asked(q, cages, c) {
+            c += 1;
+        } else {
+            return refuse(q, c);
+        }
+    }
+    Check::Pass
+}
+
+// Question q, 5, 6 or 30, to the n events in order.
+fn each_event(q: usize, h: Time, cages: usize, table: &[i32], n: usize) -> Check
+    requires { do ⌜ (cages ≤ 8) × (5 * n ≤ (← ⟦table.len()⟧)) ⌝ }
+    ensures { λ r. ⌜ check-of r ≡ each q (event-right q (h .0) cages (now (table .entry))) 0 n ⌝ }
 {
     let mut y: usize = 0;
     while y < n {
-        if event_right(q, h, table, y) {
+        if event_right(q, h, cages, table, y) {
             y += 1;
         } else {
             return refuse(q, y);
@@ -245,38 +278,56 @@ fn each_lag(q: usize, n: usize, lags: &[i32], m: usize) -> Check
 
 // ---- the questions in order
 
-// Questions 1 to 3 and 22, to the horizon and the cage.
-fn cage_questions(h: Time, c: Reservoir) -> Check
-    ensures { λ r. ⌜ check-of r ≡ cage-questions (h .0) (reservoir-of c) ⌝ }
+// len words are whole cages, 1 to 8.
+fn cages_whole(len: usize) -> bool
+    ensures { λ r. ⌜ r ≡ (eqb (len % 4) 0 && leb 4 len && leb len 32) ⌝ }
+{
+    if len < 4 {
+        return false;
+    }
+    whole(len, 4, 32)
+}
+
+// Questions 1, 29, 2, 3 and 22, to the horizon and the cage table.
+fn cage_questions(h: Time, cages: &[i32]) -> Check
+    ensures { λ r. ⌜ check-of r ≡ cage-questions (h .0) (now (cages .entry)) ⌝ }
 {
     if !horizon_right(h) {
         return refuse(1, 0);
     }
-    if !limits_right(c) {
-        return refuse(2, 0);
+    if !cages_whole(cages.len()) {
+        return refuse(29, 0);
     }
-    if !stock_right(c) {
-        return refuse(3, 0);
-    }
-    if !cover_right(c) {
-        return refuse(22, 0);
-    }
-    Check::Pass
+    let n = cages.len() / 4;
+    let limits = each_cage(2, cages, n);
+    let Check::Pass = limits else {
+        return limits;
+    };
+    let stock = each_cage(3, cages, n);
+    let Check::Pass = stock else {
+        return stock;
+    };
+    each_cage(22, cages, n)
 }
 
-// Questions 4 to 6, to the window table.
-fn window_questions(h: Time, table: &[i32]) -> Check
-    ensures { λ r. ⌜ check-of r ≡ window-questions (h .0) (now (table .entry)) ⌝ }
+// Questions 4 to 6 and 30, to the window table of a job of so many cages.
+fn window_questions(h: Time, cages: usize, table: &[i32]) -> Check
+    requires { ⌜ cages ≤ 8 ⌝ }
+    ensures { λ r. ⌜ check-of r ≡ window-questions (h .0) cages (now (table .entry)) ⌝ }
 {
-    if !whole(table.len(), 4, MOST_WINDOW_WORDS) {
+    if !whole(table.len(), 5, 320) {
         return refuse(4, 0);
     }
-    let n = table.len() / 4;
-    let times = each_event(5, h, table, n);
+    let n = table.len() / 5;
+    let times = each_event(5, h, cages, table, n);
     let Check::Pass = times else {
         return times;
     };
-    each_event(6, h, table, n)
+    let heights = each_event(6, h, cages, table, n);
+    let Check::Pass = heights else {
+        return heights;
+    };
+    each_event(30, h, cages, table, n)
 }
 
 // Questions 7 to 10, to the lag table of a job of n events.
@@ -284,7 +335,7 @@ fn lag_questions(n: usize, lags: &[i32]) -> Check
     requires { ⌜ n ≤ 64 ⌝ }
     ensures { λ r. ⌜ check-of r ≡ lag-questions n (now (lags .entry)) ⌝ }
 {
-    if !whole(lags.len(), 3, MOST_LAG_WORDS) {
+    if !whole(lags.len(), 3, 768) {
         return refuse(7, 0);
     }
     let m = lags.len() / 3;
@@ -303,46 +354,35 @@ fn lag_questions(n: usize, lags: &[i32]) -> Check
 pub fn room_question(room: usize) -> Check
     ensures { λ r. ⌜ check-of r ≡ ask 11 (room-right room) ⌝ }
 {
-    if room < LEAST_ROOM {
+    if room < 3 {
         return refuse(11, 0);
     }
-    if room > MOST_ROOM {
+    if room > 1000000 {
         return refuse(11, 0);
     }
     Check::Pass
 }
 
-// The job's own questions, 1 to 10 and 22.
-pub fn own_questions(k: Job, table: &[i32], lags: &[i32]) -> Check
-    ensures { λ r. ⌜ (
-        (j : Call) →
-        Holds k (now (lags .entry)) j →
-        j .window-table ≡ now (table .entry) →
-        check-of r ≡ own-questions j
-        ) ⌝ }
+// The job's own questions, 1 to 10, 22, 29 and 30.
+pub fn own_questions(h: Time, cages: &[i32], table: &[i32], lags: &[i32]) -> Check
+    ensures { λ r. ⌜ check-of r ≡ own-questions (call (h .0) (now (cages .entry)) (now (table .entry)) (now (lags .entry))) ⌝ }
 {
-    let h = k.horizon;
-    let cage = cage_questions(h, k.reservoir);
+    let cage = cage_questions(h, cages);
     let Check::Pass = cage else {
         return cage;
     };
-    let windows = window_questions(h, table);
+    let windows = window_questions(h, cages.len() / 4, table);
     let Check::Pass = windows else {
         return windows;
     };
-    lag_questions(table.len() / 4, lags)
+    lag_questions(table.len() / 5, lags)
 }
 
-// Questions 1 to 11 and 22: the job's own, then of the slip buffer's length.
-pub fn questions(k: Job, table: &[i32], lags: &[i32], room: usize) -> Check
-    ensures { λ r. ⌜ (
-        (j : Call) →
-        Holds k (now (lags .entry)) j →
-        j .window-table ≡ now (table .entry) →
-        check-of r ≡ questions j room
-        ) ⌝ }
+// The job's own questions, then of the slip buffer's length, 11.
+pub fn questions(h: Time, cages: &[i32], table: &[i32], lags: &[i32], room: usize) -> Check
+    ensures { λ r. ⌜ check-of r ≡ questions (call (h .0) (now (cages .entry)) (now (table .entry)) (now (lags .entry))) room ⌝ }
 {
-    let own = own_questions(k, table, lags);
+    let own = own_questions(h, cages, table, lags);
     let Check::Pass = own else {
         return own;
     };

@@ -41,8 +41,8 @@ unfolding windows
 returns c =
     let a = c .before .before .before .before .args in
     let at : ℕ → ℤ = λ i. getD (a .table .now) i (pos 0) in
-    let b₂ = back32 (at (4 * a .y + 2)) (search) in
-    let b₃ = back32 (at (4 * a .y + 3)) (search) in
+    let b₂ = back32 (at (5 * a .y + 2)) (search) in
+    let b₃ = back32 (at (5 * a .y + 3)) (search) in
     rw (b₂, b₃) (and-yes _ (rw (b₂, b₃) at (c .before .one-sign .ensures)) (c .if1 .taken))
 
 returns-2 : tie.Need-returns-2
@@ -50,8 +50,8 @@ unfolding windows
 returns-2 c =
     let a = c .before .before .before .before .args in
     let at : ℕ → ℤ = λ i. getD (a .table .now) i (pos 0) in
-    let b₂ = back32 (at (4 * a .y + 2)) (search) in
-    let b₃ = back32 (at (4 * a .y + 3)) (search) in
+    let b₂ = back32 (at (5 * a .y + 2)) (search) in
+    let b₃ = back32 (at (5 * a .y + 3)) (search) in
     and-no _ (rw (b₂, b₃) at (c .before .one-sign .ensures)) (c .if1 .left)
 
 pub heights-right-spec : {M : Type 1} → statement M

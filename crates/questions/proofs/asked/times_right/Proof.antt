@@ -39,7 +39,7 @@ unfolding windows
 returns c =
     let a = c .before .before .before .before .args in
     let at : ℕ → ℤ = λ i. getD (a .table .now) i (pos 0) in
-    c .rising .ensures ∙ rw (back32 (at (4 * a .y)) (search), back32 (at (4 * a .y + 1)) (search), back32 (a .h .0) (search), add-zero)
+    c .rising .ensures ∙ rw (back32 (at (5 * a .y)) (search), back32 (at (5 * a .y + 1)) (search), back32 (a .h .0) (search), add-zero)
 
 pub times-right-spec : {M : Type 1} → statement M
 times-right-spec =
