@@ -13,19 +13,19 @@ use lib.ListN.{length}
 use Rattle.integers.specs.Range.{Within}
 use Rattle.integers.proofs.Linear.{ints, sub-law, neg-law}
 use Rattle.integers.proofs.Tests.{is-true}
-use Rattle.model.specs.Job.{End, t-min, t-max, h-min, h-max, Windows, Job as Call, events, sent, produces, consumes}
+use Rattle.model.specs.Job.{End, t-min, t-max, h-min, h-max, Windows, Job as Call, events, produces, consumes}
 use Rattle.model.specs.Standing.{span}
 use Rattle.model.specs.View.{side, side-value, side-end, View, view, seen}
 use Rattle.model.specs.Levels.{Place, sure, possible, never, place, e-min, e-max}
 use Rattle.model.specs.Rules.{Family, level, time, height, reservoir, rule, targeted, Effect, idle, narrows, fails, failed, is-narrowing}
 use Rattle.model.specs.Facts.{lag-cites, any, first-late, last-early, left-out, surely-consumed, late, early, latest, quotes-top, spares, drops, family-cites, family-says, quotes, quoted}
 use Rattle.model.proofs.Agree.{at-hand, cites-agree, says-agree}
-use Rattle.tables.specs.Job.{reservoir-of, Kinds, Fit}
+use Rattle.tables.specs.Job.{reservoir-of, Serves, Fit}
 use Rattle.tables.specs.declared.Job.{Job}
 use Rattle.tables.specs.declared.Time.{Time}
 use Rattle.levels.specs.Values.{place-by, strict-at, as-view, seen-by, Views}
 use Rattle.levels.specs.declared.View.{View as Sight}
-use Rattle.levels.proofs.Viewing.{before-here}
+use Rattle.levels.proofs.Viewing.{here-view, before-here, seen-here, view-here}
 use Rattle.rules.specs.Values.{family-of, effect-of}
 use Rattle.rules.specs.declared.Effect.{Effect as Done}
 use Rattle.facts.specs.Quotes.{Any, lag-cited, lag-said, height-cited, level-cited, level-said, LagCites, LevelCites, Cites, Quotes}
@@ -285,17 +285,19 @@ module _
 
 -- ---- in a call
 
--- On windows that show a call's deliveries, facts may be told by the amounts at hand.
-module _ (j : Call) (m b : Bool) (e : ℕ) (W : Windows) (kinds : Kinds (events j) W (sent j)) (f : Family) where
-  call-cites : (y : ℕ) (x : Effect) (z : ℕ) → z < events j → (k : End) → family-cites f (view j m b e) (seen j m e W) y x z k ≡ family-cites f (at-hand j m b e W) (seen j m e W) y x z k
-  call-cites y x =
-      cites-agree (view j m b e) (at-hand j m b e W .before) (before-here j m b e W kinds) (seen j m e W) (seen j m e W) (λ z l k. refl)
-      (e-min (view j m b e) (seen j m e W)) (latest f (e-max (view j m b e) (seen j m e W)) x) (quotes-top f) (drops f x y)
+-- On windows that serve a call of one cage, its facts are told by the amounts at hand.
+module _ {j : Call} {k : Job} {ws : List ℤ} (m b : Bool) (e : ℕ) (W : Windows) (s : Serves k ws W j) (l : e < events j) (f : Family) where
+  call-cites : (y : ℕ) (x : Effect) (z : ℕ) → z < events j → (i : End) → family-cites f (view j m b e) (seen j m e W) y x z i ≡ family-cites f (here-view m b e W s l) (side m W) y x z i
+  call-cites y x z n i =
+      cites-agree (view j m b e) (at-hand j m b e W .before) (before-here m b e W s l) (seen j m e W) (side m W) (seen-here m b e W s l)
+      (e-min (view j m b e) (seen j m e W)) (latest f (e-max (view j m b e) (seen j m e W)) x) (quotes-top f) (drops f x y) z n i
+      ∙ ap (λ (E : View). family-cites f E (side m W) y x z i) (view-here m b e W s l)
 
-  call-says : (x : Effect) (z : ℕ) → z < events j → (k : End) → family-says f (view j m b e) (seen j m e W) x z k ≡ family-says f (at-hand j m b e W) (seen j m e W) x z k
-  call-says x =
-      says-agree (view j m b e) (at-hand j m b e W .before) (before-here j m b e W kinds) (seen j m e W) (seen j m e W) (λ z l k. refl)
-      (e-min (view j m b e) (seen j m e W)) (latest f (e-max (view j m b e) (seen j m e W)) x)
+  call-says : (x : Effect) (z : ℕ) → z < events j → (i : End) → family-says f (view j m b e) (seen j m e W) x z i ≡ family-says f (here-view m b e W s l) (side m W) x z i
+  call-says x z n i =
+      says-agree (view j m b e) (at-hand j m b e W .before) (before-here m b e W s l) (seen j m e W) (side m W) (seen-here m b e W s l)
+      (e-min (view j m b e) (seen j m e W)) (latest f (e-max (view j m b e) (seen j m e W)) x) z n i
+      ∙ ap (λ (E : View). family-says f E (side m W) x z i) (view-here m b e W s l)
 
 -- ---- by number
 
@@ -328,19 +330,17 @@ module _ {k : Job} {ws : List ℤ} (W : Windows) (r e y : ℕ) (x : Done) where
   unfolding quotes quoted
   cites-by-lower f t p l = record { known = lag-known f t l; cites = λ j h z m i. rw p (lag-quotes l j (h .holds .lags-are) z i); says = λ j h z m i t. rw p (lag-says l z i t) }
 
-  pub cites-by-side : (m b : Bool) (f : Family) {v : Sight} {c : LevelCiting} → reservoir m b f ≡ rule r → Views (k .events) (reservoir-of (k .reservoir)) m b e v → LevelCites f v W y (effect-of x) c → Cites k ws W r e y x (Level c)
+  pub cites-by-side : (m b : Bool) (f : Family) {v : Sight} {c : LevelCiting} → e < k .events → reservoir m b f ≡ rule r → Views (k .events) (reservoir-of (k .reservoir)) m b e v → LevelCites f v W y (effect-of x) c → Cites k ws W r e y x (Level c)
   unfolding quotes quoted
-  cites-by-side m b f p s l =
+  cites-by-side m b f there p s l =
       record {
         known = tt;
         cites = λ j h z n i.
             let o = h .holds in
-            let here = rw (o .events-are, o .reservoir-is) at (call-cites j m b e W (h .kinds) f y (effect-of x) z (rw (o .events-are) n) (side-end m i)) in
-            l .cites z i ∙ rw (← p, o .events-are, o .reservoir-is, s .is W, s .side-is) (sym here);
+            l .cites z i ∙ rw (← p, s .is W, s .side-is) (sym (call-cites m b e W h (rw (o .events-are) there) f y (effect-of x) z (rw (o .events-are) n) (side-end m i)));
         says = λ j h z n i t.
             let o = h .holds in
-            let here = rw (o .events-are, o .reservoir-is) at (call-says j m b e W (h .kinds) f (effect-of x) z (rw (o .events-are) n) (side-end m i)) in
-            l .says z i t ∙ rw (← p, o .events-are, o .reservoir-is, s .is W, s .side-is) (ap (side-value m i) (sym here));
+            l .says z i t ∙ rw (← p, s .is W, s .side-is) (ap (side-value m i) (sym (call-says m b e W h (rw (o .events-are) there) f (effect-of x) z (rw (o .events-are) n) (side-end m i))));
       }
 
 -- ---- ranges

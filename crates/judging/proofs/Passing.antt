@@ -1,9 +1,9 @@
 -- What a slip that names what is there gives its later questions.
 -- Assumes nothing.
-use mathlib.Core.Path.{_≡_, refl, sym, ap, _∙_}
+use mathlib.Core.Path.{_≡_, refl, ap, _∙_}
 use mathlib.Core.Bool.{Bool, true, false, _&&_}
 use mathlib.Core.List.{List}
-use Prim.Native.Nat.{ℕ, _*_, _≤_}
+use Prim.Native.Nat.{ℕ, _*_, _/_, _≤_, _<_}
 use native.Mathlib.Omega.{arith}
 use lib.Dec.{T}
 use lib.IntN.{ℤ, pos, natAbs}
@@ -11,7 +11,7 @@ use lib.ListN.{length}
 use lib.Signed.{leZ}
 use Rattle.integers.specs.Range.{Within}
 use Rattle.integers.proofs.Linear.{ints}
-use Rattle.model.specs.Job.{End, t-min, t-max, h-min, h-max, meets, Windows, produces, Inside, Job as Call, events}
+use Rattle.model.specs.Job.{End, t-min, t-max, h-min, h-max, meets, Windows, produces, Inside, Job as Call, events, cage-word}
 use Rattle.model.specs.Standing.{span, Ranged}
 use Rattle.model.specs.Rules.{subjects, target-fits}
 use Rattle.model.specs.Slips.{Premise, Explanation, rule-of, subject-of, target-of}
@@ -19,24 +19,18 @@ use Rattle.model.specs.Questions.{is-event}
 use Rattle.model.specs.Reader.{names, premises-fit, kind-fits, all-true, narrowed}
 use Rattle.model.proofs.Order.{inside-narrowed, narrowed-in}
 use Rattle.model.proofs.Sound.{named}
-use Rattle.tables.specs.Board.{board, table-of}
 use Rattle.tables.specs.Job.{Holds, Kinds, Serves, Fit}
 use Rattle.tables.specs.declared.Job.{Job}
-use Rattle.tables.proofs.Board.{length-table, windows-board}
 use Rattle.tables.proofs.Holding.{serves-alike}
 use Rattle.slips.specs.Slip.{explanation-of, Stands}
 use Rattle.slips.specs.declared.Slip.{Slip}
 use Rattle.judging.specs.Ready.{call-of, Attempts, Same}
 use Rattle.judging.proofs.Named.{subjects-are, event-is}
 
-pub holds-of : {k : Job} {table : List ℤ} (ws : List ℤ) → length table ≡ 4 * k .events → Holds k ws (call-of k ws table)
-holds-of ws e = record { horizon-is = refl; reservoir-is = refl; events-are = omega arith; lags-are = refl }
-
--- It serves the call with its window table.
-pub serves-of : {k : Job} (ws b : List ℤ) → Serves k ws (board b) (call-of k ws (table-of (k .events) b))
-serves-of {k} ws b =
-    let h = holds-of ws (length-table (k .events) b) in
-    record { holds = h; kinds = λ y l. ap produces (sym (windows-board (k .events) b y h-max (rw (h .events-are) at l))) }
+pub holds-of : {k : Job} {table : List ℤ} (ws : List ℤ) → length table ≡ 5 * k .events → ((y : ℕ) → y < k .events → cage-word table y ≡ pos 0) → Holds k ws (call-of k ws table)
+holds-of {k} {table} ws e home =
+    let count : length table / 5 ≡ k .events = omega arith in
+    record { horizon-is = refl; cages-are = refl; reservoir-is = refl; home-is = λ y l. home y (rw count at l); events-are = count; lags-are = refl }
 
 -- ---- ranges and deliveries
 

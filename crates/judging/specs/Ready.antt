@@ -11,20 +11,14 @@ use Rattle.model.specs.Standing.{Ranged}
 use Rattle.model.specs.Slips.{Premise, premise-event, premise-end}
 use Rattle.model.specs.Questions.{Check, pass, refuse, is-event, in-range}
 use Rattle.tables.specs.Board.{board, Whole}
-use Rattle.tables.specs.Job.{reservoir-of, Kinds, Fit}
+use Rattle.tables.specs.Job.{cage-words, call, Kinds, Fit}
 use Rattle.tables.specs.declared.Job.{Job}
 use Rattle.rules.specs.Values.{Tries}
 use Rattle.slips.specs.declared.Slip.{Slip}
 
--- The call of the code's job with its lent lag words and this window table.
+-- The call of the code's job of one cage with its lent lag words and this window table.
 abbrev pub call-of : Job → List ℤ → List ℤ → Call
-call-of k ws table =
-    record {
-      horizon = k .horizon .0;
-      reservoir = reservoir-of (k .reservoir);
-      window-table = table;
-      lag-table = ws;
-    }
+call-of k ws table = call (k .horizon .0) (cage-words (k .reservoir)) table ws
 
 -- ---- a slip
 

@@ -1,18 +1,21 @@
 -- Views as the code makes them: they are the definitions', and their numbers are in range.
 -- Assumes nothing.
-use mathlib.Core.Path.{_≡_, refl, sym, ap}
+use mathlib.Core.Path.{_≡_, refl, sym, ap, ap₂, _∙_}
 use mathlib.Core.Bool.{Bool, true, false, not, _&&_, _||_}
+use mathlib.Core.List.{List}
 use Prim.Native.Nat.{ℕ, _<_}
 use lib.IntN.{ℤ, pos}
 use Rattle.integers.specs.Range.{Within, eqZ}
 use Rattle.integers.proofs.Linear.{ints, neg-law}
-use Rattle.model.specs.Job.{h-min, h-max, Windows, Reservoir, Job, events, sent}
+use Rattle.model.specs.Job.{h-min, h-max, Windows, Reservoir, Job, events, home}
 use Rattle.model.specs.Standing.{SaneCage, Ranged}
-use Rattle.model.specs.View.{side-value, side-limit, View, view-of, view, seen}
+use Rattle.model.specs.View.{side-value, side, side-limit, View, view-of, view, seen}
 use Rattle.model.specs.Levels.{most}
 use Rattle.model.specs.Rules.{Family, family-rule}
-use Rattle.model.proofs.Agree.{at-hand, most-agree, family-rule-agree}
-use Rattle.tables.specs.Job.{Kinds}
+use Rattle.model.proofs.Agree.{Agree, at-hand, most-agree, family-rule-agree}
+use Rattle.tables.specs.Job.{reservoir-of, Serves}
+use Rattle.tables.specs.declared.Job.{Job as Code}
+use Rattle.tables.proofs.Holding.{home-same, seen-side}
 use Rattle.levels.specs.Values.{strict-at, Views, Sighted}
 use Rattle.levels.specs.declared.View.{View as Sight}
 
@@ -64,15 +67,26 @@ module _ {n : ℕ} {c : Reservoir} {m b : Bool} {e : ℕ} {v : Sight} (s : Views
   pub seen-event : {y : ℕ} → y < n → y < v .events
   seen-event l = rw events-are l
 
--- On windows that show a call's deliveries, its view may tell them by the amounts at hand.
-module _ (j : Job) (m b : Bool) (e : ℕ) (W : Windows) (kinds : Kinds (events j) W (sent j)) where
+-- On windows that show a call's deliveries, its view tells them by the amounts at hand; in its one cage all events are seen.
+module _ {k : Code} {ws : List ℤ} {j : Job} (m b : Bool) (e : ℕ) (W : Windows) (s : Serves k ws W j) (l : e < events j) where
+  abbrev pub here-view : View
+  here-view = view-of (k .events) (reservoir-of (k .reservoir)) (λ y. W y h-max) m b e
+
   pub before-here : (y : ℕ) → y < events j → view j m b e .before y ≡ at-hand j m b e W .before y
-  before-here y l = ap (λ p. b || (not m && (eqZ (j .reservoir .cover) (pos 0) && p))) (sym (kinds y l))
+  before-here y p = ap (λ t. b || (not m && (eqZ (home j e .cover) (pos 0) && t))) (sym (s .kinds y p))
 
-  pub most-here : e < events j → most (view j m b e) (seen j m e W) ≡ most (at-hand j m b e W) (seen j m e W)
+  pub seen-here : Agree (events j) (seen j m e W) (side m W)
+  seen-here y p i = seen-side (s .holds) m e W y i l p
+
+  pub view-here : at-hand j m b e W ≡ here-view
+  view-here = ap₂ (λ n c. view-of n c (λ y. W y h-max) m b e) (s .holds .events-are) (home-same (s .holds) e l)
+
+  pub most-here : most (view j m b e) (seen j m e W) ≡ most here-view (side m W)
   most-here =
-      most-agree (view j m b e) (at-hand j m b e W .before) before-here (seen j m e W) (seen j m e W) (λ z l k. refl)
+      most-agree (view j m b e) (at-hand j m b e W .before) before-here (seen j m e W) (side m W) seen-here l
+      ∙ ap (λ (E : View). most E (side m W)) view-here
 
-  pub rule-here : e < events j → (f : Family) (y : ℕ) → y < events j → family-rule f (view j m b e) (seen j m e W) y ≡ family-rule f (at-hand j m b e W) (seen j m e W) y
-  rule-here =
-      family-rule-agree (view j m b e) (at-hand j m b e W .before) before-here (seen j m e W) (seen j m e W) (λ z l k. refl)
+  pub rule-here : (f : Family) (y : ℕ) → y < events j → family-rule f (view j m b e) (seen j m e W) y ≡ family-rule f here-view (side m W) y
+  rule-here f y p =
+      family-rule-agree (view j m b e) (at-hand j m b e W .before) before-here (seen j m e W) (side m W) seen-here l f y p
+      ∙ ap (λ (E : View). family-rule f E (side m W) y) view-here

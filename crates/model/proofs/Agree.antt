@@ -36,7 +36,7 @@ seen-agree j m e n W X a y l k = ap (λ v. shown (here j e y) k (side-value m k 
 
 -- ---- levels, rules and facts
 
-any-agree : (n : ℕ) (p q : ℕ → Bool) → ((y : ℕ) → y < n → p y ≡ q y) → any n p ≡ any n q
+pub any-agree : (n : ℕ) (p q : ℕ → Bool) → ((y : ℕ) → y < n → p y ≡ q y) → any n p ≡ any n q
 unfolding any
 any-agree zero p q h = refl
 any-agree (suc n) p q h = ap₂ _||_ (any-agree n p q (λ y l. h y (omega arith))) (h n (omega arith))

@@ -18,6 +18,8 @@ pub mod Rounds
 pub mod Sound
 pub mod Adding
 pub mod Agree
+pub mod Neutral
+pub mod Alone
 pub mod Ranges
 pub mod Reading
 pub mod Accepted

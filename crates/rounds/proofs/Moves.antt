@@ -30,8 +30,8 @@ use Rattle.rounds.specs.Sweeps.{Sees, Three, two-attempts, lags-attempts
 use Rattle.rounds.specs.declared.Progress.{Progress}
 
 -- The board and its window table hold the same windows.
-pub agree : (n : ℕ) (b : List ℤ) → Agree n (windows (table-of n b)) (board b)
-agree n b y l k = windows-board n b y k l
+pub agree : (n : ℕ) (sent b : List ℤ) → Agree n (windows (table-of n sent b)) (board b)
+agree n sent b y l k = windows-board n sent b y k l
 
 -- ---- the list grows
 
@@ -62,7 +62,7 @@ module _ {k : Job} {ws : List ℤ} where
     pub made-both : (f g : Call → List Attempt) → Made k ws f b buffer p b′ buffer′ p′ → Made k ws g b′ buffer′ p′ b″ buffer″ p″ → Made k ws (λ j. f j ++ g j) b buffer p b″ buffer″ p″
     made-both f g m o =
         record {
-          is = λ j q. o .is j (serves-alike q (m .kinds)) ∙ rw (m .grown .same, m .is j q) (sym (made-append (length buffer) j (f j) (g j) (state-of (k .events) b buffer p)));
+          is = λ j q. o .is j (serves-alike q (m .kinds)) ∙ rw (m .grown .same, m .is j q) (sym (made-append (length buffer) j (f j) (g j) (state-of (k .events) (j .window-table) b buffer p)));
           kinds = λ y l. o .kinds y l ∙ m .kinds y l;
           grown = grown-more (m .grown) (o .grown);
         }
@@ -71,7 +71,7 @@ module _ {k : Job} {ws : List ℤ} where
     pub made-on : (f : ℕ → Call → List Attempt) (i : ℕ) → Made k ws (λ j. each-of (λ i. f i j) 0 i) b buffer p b′ buffer′ p′ → Made k ws (f i) b′ buffer′ p′ b″ buffer″ p″ → Made k ws (λ j. each-of (λ i. f i j) 0 (i + 1)) b buffer p b″ buffer″ p″
     made-on f i m o =
         record {
-          is = λ j q. o .is j (serves-alike q (m .kinds)) ∙ rw (m .grown .same, m .is j q) (sym (made-more (length buffer) j (λ i. f i j) i (state-of (k .events) b buffer p)));
+          is = λ j q. o .is j (serves-alike q (m .kinds)) ∙ rw (m .grown .same, m .is j q) (sym (made-more (length buffer) j (λ i. f i j) i (state-of (k .events) (j .window-table) b buffer p)));
           kinds = λ y l. o .kinds y l ∙ m .kinds y l;
           grown = grown-more (m .grown) (o .grown);
         }

@@ -86,10 +86,10 @@ acted-slip room r j e y fails s h = refl
 -- ---- the new end stored
 
 -- What an effect stores on the board it stores in the table.
-table-stored : (n : ℕ) (b : List ℤ) (y : ℕ) (k : End) (x : Effect) → Whole b → y < n → n ≤ 64 → table-of n (stored k y x b) ≡ table-after k y x (table-of n b)
-table-stored n b y k idle w l m = refl
-table-stored n b y k (narrows v) w l m = table-set n b w y k v l m
-table-stored n b y k fails w l m = refl
+table-stored : (n : ℕ) (sent b : List ℤ) (y : ℕ) (k : End) (x : Effect) → Whole b → y < n → n ≤ 64 → table-of n sent (stored k y x b) ≡ table-after k y x (table-of n sent b)
+table-stored n sent b y k idle w l m = refl
+table-stored n sent b y k (narrows v) w l m = table-set n sent b w y k v l m
+table-stored n sent b y k fails w l m = refl
 
 stored-whole : (k : End) (y : ℕ) (x : Effect) (b : List ℤ) → Whole b → Whole (stored k y x b)
 stored-whole k y idle b w = w
@@ -208,19 +208,17 @@ module _ {k : Job} {ws b buffer : List ℤ} {p : Progress} {r e y : ℕ} {x : Do
 
   -- It is the definitions' slip, and what they make of it is known by whether it fits.
   module _ (j : Call) (s : Serves k ws (board b) j) where
-    abbrev h : Holds k ws j
-    h = s .holds
-
-    slip-is : slip-of (k .events) (board b) c r e y x ≡ explanation r j (windows (table-of (k .events) b)) e y (effect-of x)
+    slip-is : slip-of (k .events) (board b) c r e y x ≡ explanation r j (windows (table-of (k .events) (j .window-table) b)) e y (effect-of x)
     slip-is =
         let n = k .events in
+        let h = s .holds in
         let there : e < subjects (rule r) j = rw (← subjects-are h (rule r)) (tries .subject) in
-        let same : Agree (events j) (board b) (windows (table-of n b)) = rw (h .events-are) (agree-sym n (windows (table-of n b)) (board b) (agree n b)) in
-        rw (same-premises j s cites) (explanation-agree j (board b) (windows (table-of n b)) same r e y (effect-of x) there)
+        let same : Agree (events j) (board b) (windows (table-of n (j .window-table) b)) = rw (h .events-are) (agree-sym n (windows (table-of n (j .window-table) b)) (board b) (agree n (j .window-table) b)) in
+        rw (same-premises j s cites) (explanation-agree j (board b) (windows (table-of n (j .window-table) b)) same r e y (effect-of x) there)
 
-    act-is : acted (length buffer) r j e y (effect-of x) (state-of (k .events) b buffer p)
-        ≡ recorded (length buffer) (state-of (k .events) b buffer p) (slip-of (k .events) (board b) c r e y x) (table-after (own-end (rule r)) y (effect-of x) (table-of (k .events) b)) (status-after (effect-of x))
-    act-is = acted-slip (length buffer) r j e y (effect-of x) (state-of (k .events) b buffer p) busy ∙ rw (← slip-is)
+    act-is : acted (length buffer) r j e y (effect-of x) (state-of (k .events) (j .window-table) b buffer p)
+        ≡ recorded (length buffer) (state-of (k .events) (j .window-table) b buffer p) (slip-of (k .events) (board b) c r e y x) (table-after (own-end (rule r)) y (effect-of x) (table-of (k .events) (j .window-table) b)) (status-after (effect-of x))
+    act-is = acted-slip (length buffer) r j e y (effect-of x) (state-of (k .events) (j .window-table) b buffer p) busy ∙ rw (← slip-is)
 
   module _ {m : ℕ} (count : m ≡ length (slip-of (k .events) (board b) c r e y x .premises)) where
     long : length (slip-words (slip-of (k .events) (board b) c r e y x)) ≡ 7 + 3 * m
@@ -239,9 +237,8 @@ module _ {k : Job} {ws b buffer : List ℤ} {p : Progress} {r e y : ℕ} {x : Do
     slip-made h a g t =
         let yes = room-yes (length buffer) (take (p .used) buffer) (slip-words (slip-of (k .events) (board b) c r e y x)) (p .used) m log-size long h in
         let signs = stored-sign b (own-end (rule r)) y (held .whole) (held .ranged .few) (tries .target) (held .signed) (effect-of x) (does .narrower) in
-        let table = table-stored (k .events) b y (own-end (rule r)) (effect-of x) (held .whole) (tries .target) (held .ranged .few) in
         record {
-          is = λ j q. with-slip-is (ap (table-of (k .events)) g ∙ table) (a .is) (sym log-size) t ∙ sym (act-is j q ∙ rw yes);
+          is = λ j q. with-slip-is (ap (table-of (k .events) (j .window-table)) g ∙ table-stored (k .events) (j .window-table) b y (own-end (rule r)) (effect-of x) (held .whole) (tries .target) (held .ranged .few)) (a .is) (sym log-size) t ∙ sym (act-is j q ∙ rw yes);
           kinds = rw g (λ z l. signs z l h-max (omega arith));
           grown = record {
             held = record {
@@ -266,22 +263,21 @@ module _ {k : Job} {ws b buffer : List ℤ} {p : Progress} {r e y : ℕ} (held :
   -- The call has ended.
   pub attempt-off : {t : Bool} → t ≡ still (status-of (p .status)) → not t ≡ true → Made k ws (λ j. try r e y ∷ []) b buffer p b buffer p
   attempt-off {t} h f =
-      let st = state-of (k .events) b buffer p in
-      record { is = λ j q. sym (attempt-tried (length buffer) r j e y st ∙ tried-off (status-of (p .status)) _ st (sym h ∙ not-true t f)); kinds = λ y l. refl; grown = grown-none held }
+      record { is = λ j q. let st = state-of (k .events) (j .window-table) b buffer p in sym (attempt-tried (length buffer) r j e y st ∙ tried-off (status-of (p .status)) _ st (sym h ∙ not-true t f)); kinds = λ y l. refl; grown = grown-none held }
 
   module _ {t : Bool} {x : Done} (h : t ≡ still (status-of (p .status))) (f : not t ≡ false) (does : Does k ws (board b) r e y x) where
-    attempt-on : (j : Call) → Serves k ws (board b) j → made (length buffer) j (try r e y ∷ []) (state-of (k .events) b buffer p) ≡ acted (length buffer) r j e y (effect-of x) (state-of (k .events) b buffer p)
+    attempt-on : (j : Call) → Serves k ws (board b) j → made (length buffer) j (try r e y ∷ []) (state-of (k .events) (j .window-table) b buffer p) ≡ acted (length buffer) r j e y (effect-of x) (state-of (k .events) (j .window-table) b buffer p)
     attempt-on j q =
         let n = k .events in
         let on = still-running (status-of (p .status)) (sym h ∙ not-false t f) in
         let h = q .holds in
         let there : e < subjects (rule r) j = rw (← subjects-are h (rule r)) (tries .subject) in
-        let same = outcome-agree j (windows (table-of n b)) (board b) (rw (h .events-are) (agree n b)) (sane-of h (tries .fit)) (rule r) e y there (rw (h .events-are) (tries .target)) ∙ sym (does .is j q) in
-        attempt-tried (length buffer) r j e y (state-of n b buffer p) ∙ rw (on, same)
+        let same = outcome-agree j (windows (table-of n (j .window-table) b)) (board b) (rw (h .events-are) (agree n (j .window-table) b)) (sane-of h (tries .fit)) (rule r) e y there (rw (h .events-are) (tries .target)) ∙ sym (does .is j q) in
+        attempt-tried (length buffer) r j e y (state-of n (j .window-table) b buffer p) ∙ rw (on, same)
 
     -- It does nothing.
     pub attempt-idle : {i : Bool} → i ≡ is-idle (effect-of x) → i ≡ true → Made k ws (λ j. try r e y ∷ []) b buffer p b buffer p
-    attempt-idle u w = record { is = λ j q. sym (attempt-on j q ∙ acted-idle (length buffer) r j e y (effect-of x) (state-of (k .events) b buffer p) (sym u ∙ w)); kinds = λ y l. refl; grown = grown-none held }
+    attempt-idle u w = record { is = λ j q. sym (attempt-on j q ∙ acted-idle (length buffer) r j e y (effect-of x) (state-of (k .events) (j .window-table) b buffer p) (sym u ∙ w)); kinds = λ y l. refl; grown = grown-none held }
 
     -- It is acted on.
     pub attempt-acts : {b′ buffer′ : List ℤ} {o : Progress} → Leads k ws (λ j. acted (length buffer) r j e y (effect-of x)) b buffer p b′ buffer′ o → Made k ws (λ j. try r e y ∷ []) b buffer p b′ buffer′ o

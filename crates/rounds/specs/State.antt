@@ -27,11 +27,11 @@ abbrev pub still : model.Status → Bool
 still running = true
 still (ended v) = false
 
--- The state of n events: the board's window table, and the list so far at the buffer's start.
-abbrev pub state-of : ℕ → List ℤ → List ℤ → Progress → State
-state-of n b buffer p =
+-- The state of n events: the board's window table, with the cages of the table that was sent in, and the list so far at the buffer's start.
+abbrev pub state-of : ℕ → List ℤ → List ℤ → List ℤ → Progress → State
+state-of n sent b buffer p =
     record {
-      table = table-of n b;
+      table = table-of n sent b;
       log = take (p .used) buffer;
       slips = p .slips;
       last = p .last;
@@ -58,7 +58,7 @@ pub record Grown (n : ℕ) (buffer : List ℤ) (p : Progress) (b′ buffer′ : 
 
 -- What was done to the state is f of every call that the job at hand is of; deliveries stay deliveries.
 pub record Leads (k : Job) (ws : List ℤ) (f : Call → State → State) (b buffer : List ℤ) (p : Progress) (b′ buffer′ : List ℤ) (p′ : Progress) : Type 0 where
-  pub is : (j : Call) → Serves k ws (board b) j → state-of (k .events) b′ buffer′ p′ ≡ f j (state-of (k .events) b buffer p)
+  pub is : (j : Call) → Serves k ws (board b) j → state-of (k .events) (j .window-table) b′ buffer′ p′ ≡ f j (state-of (k .events) (j .window-table) b buffer p)
   pub kinds : Kinds (k .events) (board b′) (board b)
   pub grown : Grown (k .events) buffer p b′ buffer′ p′
 

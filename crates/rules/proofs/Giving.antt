@@ -118,5 +118,4 @@ module _ {k : Job} {ws : List ℤ} (W : Windows) (r e y : ℕ) where
   gives-seen m b i {v} {g = g} p s q l n t j h =
       let z = rw q at p in
       let o = h .holds in
-      let here = rw (o .events-are, o .reservoir-is) at (rule-here j m b e W (h .kinds) (rw (o .events-are) l) g y (rw (o .events-are) n)) in
-      t ∙ rw (← z, o .events-are, o .reservoir-is, s .is W, s .side-is) (ap (side-finding m (family-end g)) (sym here))
+      t ∙ rw (← z, s .is W, s .side-is) (ap (side-finding m (family-end g)) (sym (rule-here m b e W h (rw (o .events-are) l) g y (rw (o .events-are) n))))

@@ -15,16 +15,17 @@ use Rattle.integers.specs.Sum.{sum}
 use Rattle.integers.proofs.Linear.{ints, add-law}
 use Rattle.integers.proofs.Sums.{sum-le, sum-le-but}
 use Rattle.integers.proofs.Tests.{is-true, true-is, and-in, and-out}
-use Rattle.model.specs.Job.{t-min, t-max, h-min, h-max, Windows, ahead, produces, lag-word, Reservoir, Job, events, sent, lag-a, lag-b, lag-d}
+use Rattle.model.specs.Job.{t-min, t-max, h-min, h-max, Windows, ahead, produces, lag-word, Reservoir, Job, events, lag-a, lag-b, lag-d}
 use Rattle.model.specs.Standing.{Ranged}
-use Rattle.model.specs.View.{side-value, side, side-limit, View, seen}
+use Rattle.model.specs.View.{side-value, side, side-limit, View}
 use Rattle.model.specs.Levels.{placed, e-min, e-max, gain, gains, most-in, most}
 use Rattle.model.specs.Rules.{level, time, height, lag-upper, lag-lower, reservoir, finding, idle, narrows, fails}
 use Rattle.model.proofs.Levels.{gain-possible}
-use Rattle.model.proofs.Agree.{at-hand}
 use Rattle.model.proofs.Silence.{Idle, level-idle, time-idle, early-most, spared-idle, Quiet}
-use Rattle.tables.specs.Job.{Kinds}
+use Rattle.tables.specs.Job.{reservoir-of, Serves}
+use Rattle.tables.specs.declared.Job.{Job as Code}
 use Rattle.levels.proofs.Placing.{side-early, side-late}
+use Rattle.levels.proofs.Viewing.{here-view}
 use Rattle.levels.proofs.Adding.{kept-within, side-ranged, within-sum, own-term, other-term}
 use Rattle.silence.specs.Calm.{reaches-early, floor-gain, floor-of, larger, spread-of, floored, calm, drain, deep, ordered, all-calm, lag-kept}
 use Rattle.silence.proofs.Sparing.{width-side, idle-here}
@@ -198,23 +199,26 @@ module _ (E : View) (X : Windows) (l : E .subject < E .events) where
 -- ---- what is passed over
 
 -- Rules 3 and 4 (9 and 10), and their mirrors: e's window is not empty, and the level reaches the limit with e at its earliest minute.
-module _ (m b : Bool) (j : Job) (W : Windows) (e : ℕ) (kinds : Kinds (events j) W (sent j)) (l : e < events j) where
+module _ {j : Job} {k : Code} {ws : List ℤ} (m b : Bool) (W : Windows) (e : ℕ) (s : Serves k ws W j) (l : e < events j) where
   abbrev at : View
-  at = at-hand j m b e W
+  at = here-view m b e W s l
 
-  module _ (o : e-min at (seen j m e W) ≤ℤ e-max at (seen j m e W)) (k : at .limit ≤ℤ most-in at (seen j m e W) (e-min at (seen j m e W)) (e-min at (seen j m e W))) where
-    most-reaches : at .limit ≤ℤ most at (seen j m e W)
-    most-reaches = le-trans (at .limit) (most-in at (seen j m e W) (e-min at (seen j m e W)) (e-min at (seen j m e W))) (most at (seen j m e W)) k (early-most at (seen j m e W) o)
+  abbrev in-view : Windows
+  in-view = side m W
+
+  module _ (o : e-min at in-view ≤ℤ e-max at in-view) (r : at .limit ≤ℤ most-in at in-view (e-min at in-view) (e-min at in-view)) where
+    most-reaches : at .limit ≤ℤ most at in-view
+    most-reaches = le-trans (at .limit) (most-in at in-view (e-min at in-view) (e-min at in-view)) (most at in-view) r (early-most at in-view o)
 
     level-passed : Idle (reservoir m b level) j W e e
-    level-passed = idle-here m b level j W e e kinds l l (level-idle at (seen j m e W) e most-reaches)
+    level-passed = idle-here m b W e e s l l level (level-idle at in-view e most-reaches)
 
     time-passed : Idle (reservoir m b time) j W e e
-    time-passed = idle-here m b time j W e e kinds l l (time-idle at (seen j m e W) k)
+    time-passed = idle-here m b W e e s l l time (time-idle at in-view r)
 
-  pub reached-apart : reaches-early at (seen j m e W) ≡ true → Idle (reservoir m b level) j W e e × Idle (reservoir m b time) j W e e
+  pub reached-apart : reaches-early at in-view ≡ true → Idle (reservoir m b level) j W e e × Idle (reservoir m b time) j W e e
   reached-apart q =
-      let X = seen j m e W in
+      let X = in-view in
       let r = and-out (leZ (e-min at X) (e-max at X)) (leZ (at .limit) (most-in at X (e-min at X) (e-min at X))) (true-is q) in
       (level-passed (leZ-yes (r .0)) (leZ-yes (r .1)), time-passed (leZ-yes (r .0)) (leZ-yes (r .1)))
 
@@ -229,14 +233,17 @@ side-ordered : (m : Bool) (W : Windows) (e : ℕ) → W e t-min ≤ℤ W e t-max
 side-ordered true W e h = h
 side-ordered false W e h = h
 
-module _ (j : Job) (W : Windows) (e : ℕ) (d : ℤ) (kinds : Kinds (events j) W (sent j)) (l : e < events j) (positive : pos 0 ≤ℤ d) (wide : (y : ℕ) → y < events j → (W y h-max -ℤ W y h-min) ≤ℤ d) (ordered : W e t-min ≤ℤ W e t-max)
-    (floors : (m : Bool) → (side-limit m (j .reservoir) +ℤ d) ≤ℤ floor-of (events j) (side-value m h-max (j .reservoir .initial)) (side m W) e) where
+module _ {j : Job} {k : Code} {ws : List ℤ} (W : Windows) (e : ℕ) (d : ℤ) (s : Serves k ws W j) (l : e < events j) (positive : pos 0 ≤ℤ d) (wide : (y : ℕ) → y < k .events → (W y h-max -ℤ W y h-min) ≤ℤ d)
+    (ordered : W e t-min ≤ℤ W e t-max) (floors : (m : Bool) → (side-limit m (reservoir-of (k .reservoir)) +ℤ d) ≤ℤ floor-of (k .events) (side-value m h-max (reservoir-of (k .reservoir) .initial)) (side m W) e) where
+  there : e < k .events
+  there = rw (s .holds .events-are) at l
+
   module _ (m b : Bool) where
     abbrev E : View
-    E = at-hand j m b e W
+    E = here-view m b e W s l
 
     abbrev X : Windows
-    X = seen j m e W
+    X = side m W
 
     abbrev floor : ℤ
     floor = floor-of (E .events) (E .opening) X e
@@ -245,32 +252,32 @@ module _ (j : Job) (W : Windows) (e : ℕ) (d : ℤ) (kinds : Kinds (events j) W
     early = most-in E X (e-min E X) (e-min E X)
 
     reaches : E .limit ≤ℤ early
-    reaches = over (E .limit) d floor early (floors m) positive (floor-most E X l)
+    reaches = over (E .limit) d floor early (floors m) positive (floor-most E X there)
 
     height-passed : (y : ℕ) → y < events j → Idle (reservoir m b height) j W e y
     height-passed y h =
         let under = early-most E X (side-ordered m W e ordered) in
-        idle-here m b height j W e y kinds l h
+        idle-here m b W e y s l h height
         (spared-idle E X y (le-trans (E .limit) early (most E X) reaches under)
-        (slack-wide (E .limit) d floor early (most E X) (X y h-max -ℤ X y h-min) under (width-side m W y (wide y h)) (floors m) (floor-most E X l) refl))
+        (slack-wide (E .limit) d floor early (most E X) (X y h-max -ℤ X y h-min) under (width-side m W y (wide y (rw (s .holds .events-are) at h))) (floors m) (floor-most E X there) refl))
 
   floors-quiet : Quiet j W e
   floors-quiet =
       record {
-        level-quiet = λ m b. level-passed m b j W e kinds l (side-ordered m W e ordered) (reaches m b);
-        time-quiet = λ m b. time-passed m b j W e kinds l (side-ordered m W e ordered) (reaches m b);
+        level-quiet = λ m b. level-passed m b W e s l (side-ordered m W e ordered) (reaches m b);
+        time-quiet = λ m b. time-passed m b W e s l (side-ordered m W e ordered) (reaches m b);
         height-quiet = height-passed;
       }
 
-pub calm-quiet : (j : Job) (W : Windows) (e : ℕ) {d : ℤ} → Kinds (events j) W (sent j) → e < events j → d ≡ spread-of (events j) W → calm (events j) (j .reservoir) W e d ≡ true → Quiet j W e
-calm-quiet j W e {d} kinds l p q =
-    let n = events j in
-    let c = j .reservoir in
+pub calm-quiet : {j : Job} {k : Code} {ws : List ℤ} (W : Windows) (e : ℕ) {d : ℤ} → Serves k ws W j → e < events j → d ≡ spread-of (k .events) W → calm (k .events) (reservoir-of (k .reservoir)) W e d ≡ true → Quiet j W e
+calm-quiet {j} {k} W e {d} s l p q =
+    let n = k .events in
+    let c = reservoir-of (k .reservoir) in
     let a = and-out (floored false n c W e d) (floored true n c W e d && leZ (W e t-min) (W e t-max)) (true-is q) in
     let b = and-out (floored true n c W e d) (leZ (W e t-min) (W e t-max)) (a .1) in
-    floors-quiet j W e d kinds l (rw p (spread-positive n W)) (λ y h. rw p (spread-wide n W y h)) (leZ-yes (b .1)) (λ m. go m (a .0) (b .0))
+    floors-quiet W e d s l (rw p (spread-positive n W)) (λ y h. rw p (spread-wide n W y h)) (leZ-yes (b .1)) (λ m. go m (a .0) (b .0))
   where
-    go : (m : Bool) → T (floored false (events j) (j .reservoir) W e d) → T (floored true (events j) (j .reservoir) W e d) → (side-limit m (j .reservoir) +ℤ d) ≤ℤ floor-of (events j) (side-value m h-max (j .reservoir .initial)) (side m W) e
+    go : (m : Bool) → T (floored false (k .events) (reservoir-of (k .reservoir)) W e d) → T (floored true (k .events) (reservoir-of (k .reservoir)) W e d) → (side-limit m (reservoir-of (k .reservoir)) +ℤ d) ≤ℤ floor-of (k .events) (side-value m h-max (reservoir-of (k .reservoir) .initial)) (side m W) e
     go true x y = leZ-yes y
     go false x y = leZ-yes x
 

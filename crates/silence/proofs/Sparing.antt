@@ -2,6 +2,7 @@
 -- Assumes nothing.
 use mathlib.Core.Path.{_≡_, refl, sym, ap, subst, _∙_}
 use mathlib.Core.Bool.{Bool, true, false, not, cond, _&&_, _||_}
+use mathlib.Core.List.{List}
 use Prim.Native.Nat.{ℕ, zero, suc, _+_, _<_, _≤_}
 use native.Mathlib.Decide.{ℕ-discrete}
 use native.Mathlib.Numerals.{add-one}
@@ -12,15 +13,16 @@ use lib.IntN.{ℤ, pos, negℤ, _-ℤ_}
 use lib.Signed.{leZ, _≤ℤ_, leZ-yes}
 use Rattle.integers.proofs.Linear.{ints, neg-law}
 use Rattle.integers.proofs.Tests.{true-is, and-out}
-use Rattle.model.specs.Job.{t-min, t-max, h-min, h-max, Windows, ahead, produces, Job, events, sent}
-use Rattle.model.specs.View.{side, View, seen}
+use Rattle.model.specs.Job.{t-min, t-max, h-min, h-max, Windows, ahead, produces, Job, events}
+use Rattle.model.specs.View.{side, View, view, seen}
 use Rattle.model.specs.Levels.{placed, e-min, e-max, stands}
 use Rattle.model.specs.Rules.{targeted, Family, height, reservoir, family-rule, family-end, effect, idle, height-rule}
-use Rattle.model.proofs.Agree.{at-hand}
+use Rattle.model.proofs.Agree.{effect-agree}
 use Rattle.model.proofs.Silence.{Idle, seen-idle, untargeted-idle, spared-idle}
-use Rattle.tables.specs.Job.{Kinds}
+use Rattle.tables.specs.Job.{Serves}
+use Rattle.tables.specs.declared.Job.{Job as Code}
 use Rattle.levels.proofs.Placing.{side-early, side-late}
-use Rattle.levels.proofs.Viewing.{rule-here}
+use Rattle.levels.proofs.Viewing.{here-view, seen-here, rule-here}
 use Rattle.silence.specs.Slack.{slack-of, spares, moves, may-move, count, may-be-moved, some-move}
 
 -- ---- counting
@@ -142,24 +144,28 @@ width-side false W y l = l
 over-limit : {a b k : ℤ} → k ≡ a -ℤ b → pos 0 ≤ℤ k → b ≤ℤ a
 over-limit e l = omega ints
 
--- What a family does to the windows seen, told by the amounts at hand, tells what the rule does.
-pub idle-here : (m b : Bool) (f : Family) (j : Job) (W : Windows) (e y : ℕ) → Kinds (events j) W (sent j) → e < events j → y < events j
-    → effect (family-end f) (seen j m e W) y (family-rule f (at-hand j m b e W) (seen j m e W) y) ≡ idle → Idle (reservoir m b f) j W e y
-idle-here m b f j W e y kinds l n h =
-    seen-idle m b f j W e y (ap (effect (family-end f) (seen j m e W) y) (rule-here j m b e W kinds l f y n) ∙ h)
-
-module _ (m b : Bool) (j : Job) (W : Windows) (e y : ℕ) (kinds : Kinds (events j) W (sent j)) (l : e < events j) (n : y < events j) where
+module _ {j : Job} {c : Code} {ws : List ℤ} (m b : Bool) (W : Windows) (e y : ℕ) (s : Serves c ws W j) (l : e < events j) (n : y < events j) where
   abbrev E : View
-  E = at-hand j m b e W
+  E = here-view m b e W s l
+
+  abbrev X : Windows
+  X = side m W
+
+  -- What a family does on a side, told by the amounts at hand, tells what the rule does.
+  pub idle-here : (f : Family) → effect (family-end f) X y (family-rule f E X y) ≡ idle → Idle (reservoir m b f) j W e y
+  idle-here f h =
+      seen-idle m b f j W e y
+      (effect-agree j (seen j m e W) X (seen-here m b e W s l) (family-end f) y n (family-rule f (view j m b e) (seen j m e W) y)
+      ∙ ap (effect (family-end f) X y) (rule-here m b e W s l f y n)
+      ∙ h)
 
   -- At a target that the level's slack does not move the rule does nothing.
-  pub still-idle : {k : ℤ} → k ≡ slack-of E (seen j m e W) → moves E (seen j m e W) W k y ≡ false → Idle (reservoir m b height) j W e y
-  still-idle {k} i h = idle-here m b height j W e y kinds l n (go (spares k (W y h-min) (W y h-max)) refl h)
+  pub still-idle : {k : ℤ} → k ≡ slack-of E X → moves E X W k y ≡ false → Idle (reservoir m b height) j W e y
+  still-idle {k} i h = idle-here height (go (spares k (W y h-min) (W y h-max)) refl h)
     where
-      go : (t : Bool) → spares k (W y h-min) (W y h-max) ≡ t → (not t && targeted (stands E (seen j m e W) y) (seen j m e W y h-max)) ≡ false
-          → effect h-min (seen j m e W) y (height-rule E (seen j m e W) y) ≡ idle
+      go : (t : Bool) → spares k (W y h-min) (W y h-max) ≡ t → (not t && targeted (stands E X y) (X y h-max)) ≡ false → effect h-min X y (height-rule E X y) ≡ idle
       go true q f =
           let both = and-out (leZ (pos 0) k) (leZ (W y h-max -ℤ W y h-min) k) (true-is q) in
           let w = width-side m W y (leZ-yes (both .1)) in
-          spared-idle E (seen j m e W) y (over-limit i (leZ-yes (both .0))) (rw i at w)
-      go false q f = untargeted-idle E (seen j m e W) y f
+          spared-idle E X y (over-limit i (leZ-yes (both .0))) (rw i at w)
+      go false q f = untargeted-idle E X y f

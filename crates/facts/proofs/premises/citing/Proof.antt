@@ -54,7 +54,7 @@ returns-3 c =
     let s = c .before .before .before .before .before in
     let a = s .args in
     let v = c .before .before .variant in
-    cites-by-side (board (a .b .now)) (a .r) (a .e) (a .y) (a .x) (v .result .mirror) (v .result .strict) (family-of (v .result .family)) (v .ensures) (c .before .rule-view .ensures) (c .level-citing .ensures)
+    cites-by-side (board (a .b .now)) (a .r) (a .e) (a .y) (a .x) (v .result .mirror) (v .result .strict) (family-of (v .result .family)) (event-subject (v .result .mirror) (v .result .strict) (family-of (v .result .family)) (a .k) (a .lags .now) (v .ensures) (s .pre .0 .subject)) (v .ensures) (c .before .rule-view .ensures) (c .level-citing .ensures)
 
 pub citing-spec : {M : Type 1} → statement M
 citing-spec =

@@ -5,12 +5,10 @@ use borrow.Author.Tests.{not-true, not-false}
 use Rattle.integers.proofs.Tests.{true-is}
 use Rattle.model.specs.Reader.{slip-questions}
 use Rattle.model.proofs.Sound.{named}
-use Rattle.tables.specs.Board.{table-of}
-use Rattle.tables.proofs.Board.{length-table}
-use Rattle.tables.proofs.Holding.{serves-alike}
+use Rattle.tables.specs.Job.{board-call}
+use Rattle.tables.proofs.Holding.{board-holds, serves-alike}
 use Rattle.slips.specs.Slip.{explanation-of}
-use Rattle.judging.specs.Ready.{call-of}
-use Rattle.judging.proofs.Passing.{holds-of, narrowed-range, narrowed-kinds, attempts, facts-fit, header-signs}
+use Rattle.judging.proofs.Passing.{narrowed-range, narrowed-kinds, attempts, facts-fit, header-signs}
 use borrow.Author.Needs.{needs}
 use Rattle.judging.proofs.giving.slip_questions.Statement.{statement}
 use Rattle.judging.proofs.giving.slip_questions.Tie as tie
@@ -26,8 +24,8 @@ facts-true-requires : tie.Need-facts-true-requires
 facts-true-requires c κs =
     let a = c .before .before .args in
     let x = explanation-of (a .list .now) (a .s) in
-    let j = call-of (a .k) (a .lags .now) (table-of (a .k .events) (a .b .now)) in
-    let h = holds-of (a .lags .now) (length-table (a .k .events) (a .b .now)) in
+    let j = board-call (a .k) (a .lags .now) (a .b .now) in
+    let h = board-holds (a .k) (a .lags .now) (a .b .now) in
     let t = true-is (sym (c .before .names .ensures j h) ∙ not-false _ (c .if1 .left)) in
     (c .before .before .pre .1, c .before .before .pre .0 .fit .few-events, facts-fit h (a .list .now) (a .s) t)
 
@@ -39,8 +37,8 @@ index-requires : tie.Need-index-requires
 index-requires c κs =
     let a = c .before .before .before .before .args in
     let x = explanation-of (a .list .now) (a .s) in
-    let j = call-of (a .k) (a .lags .now) (table-of (a .k .events) (a .b .now)) in
-    let h = holds-of (a .lags .now) (length-table (a .k .events) (a .b .now)) in
+    let j = board-call (a .k) (a .lags .now) (a .b .now) in
+    let h = board-holds (a .k) (a .lags .now) (a .b .now) in
     let t = true-is (sym (c .before .before .before .names .ensures j h) ∙ not-false _ (c .before .before .if1 .left)) in
     header-signs j x t .0
 
@@ -48,8 +46,8 @@ index-requires-2 : tie.Need-index-requires-2
 index-requires-2 c κs =
     let a = c .before .before .before .before .before .args in
     let x = explanation-of (a .list .now) (a .s) in
-    let j = call-of (a .k) (a .lags .now) (table-of (a .k .events) (a .b .now)) in
-    let h = holds-of (a .lags .now) (length-table (a .k .events) (a .b .now)) in
+    let j = board-call (a .k) (a .lags .now) (a .b .now) in
+    let h = board-holds (a .k) (a .lags .now) (a .b .now) in
     let t = true-is (sym (c .before .before .before .before .names .ensures j h) ∙ not-false _ (c .before .before .before .if1 .left)) in
     header-signs j x t .1
 
@@ -57,8 +55,8 @@ facts-give-requires : tie.Need-facts-give-requires
 facts-give-requires c κs =
     let a = c .before .before .before .before .before .before .args in
     let x = explanation-of (a .list .now) (a .s) in
-    let j = call-of (a .k) (a .lags .now) (table-of (a .k .events) (a .b .now)) in
-    let h = holds-of (a .lags .now) (length-table (a .k .events) (a .b .now)) in
+    let j = board-call (a .k) (a .lags .now) (a .b .now) in
+    let h = board-holds (a .k) (a .lags .now) (a .b .now) in
     let t = true-is (sym (c .before .before .before .before .before .names .ensures j h) ∙ not-false _ (c .before .before .before .before .if1 .left)) in
     let p = c .before .before .before .before .before .before .pre .0 in
     let u = true-is (sym (c .before .before .before .facts-true .ensures) ∙ not-false _ (c .before .before .if2 .left)) in
@@ -82,8 +80,8 @@ does-right-requires : tie.Need-does-right-requires
 does-right-requires c κs =
     let a = c .before .before .before .before .before .before .before .before .args in
     let x = explanation-of (a .list .now) (a .s) in
-    let j = call-of (a .k) (a .lags .now) (table-of (a .k .events) (a .b .now)) in
-    let h = holds-of (a .lags .now) (length-table (a .k .events) (a .b .now)) in
+    let j = board-call (a .k) (a .lags .now) (a .b .now) in
+    let h = board-holds (a .k) (a .lags .now) (a .b .now) in
     let t = true-is (sym (c .before .before .before .before .before .before .before .names .ensures j h) ∙ not-false _ (c .before .before .before .before .before .before .if1 .left)) in
     let o = named j x t in
     let l = rw (← c .before .before .index2 .ensures, h .events-are) at (o .target-real) in
