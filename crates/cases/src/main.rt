@@ -46,13 +46,7 @@ fn copy(from: &[i32], start: usize, to: &mut [i32])
 }
 
 // The call itself. What the planner writes is printed as the list, then what it leaves as it was, then what the reader says of that list.
-fn call(
-    numbers: &[i32; 1030],
-    cages: &[i32],
-    table: &mut [i32],
-    lags: &[i32],
-    list: &mut [i32],
-) {
+fn call(numbers: &[i32; 1030], cages: &[i32], table: &mut [i32], lags: &[i32], list: &mut [i32]) {
     if numbers[0] == 1 {
         let checked = reservoir::plan_and_read(numbers[1], cages, table, lags, list);
         let answer = checked.answer;
@@ -147,9 +141,7 @@ fn case(name: &[u8], words: &[u8]) {
     let mut table = [0i32; 360];
     let mut lags = [0i32; 800];
     let mut list = [0i32; 1000];
-    if !sized(
-        &numbers, n, &mut cages, &mut table, &mut lags, &mut list,
-    ) {
+    if !sized(&numbers, n, &mut cages, &mut table, &mut lags, &mut list) {
         say(b"not a case\n");
     }
 }

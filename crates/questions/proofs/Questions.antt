@@ -9,14 +9,11 @@ use lib.Dec.{eqb, leb}
 use lib.IntN.{ℤ}
 use lib.ListN.{length}
 use borrow.Author.Tests.{leb-true}
-use Rattle.model.specs.Job.{Job as Call}
-use Rattle.tables.specs.Job.{reservoir-of, Holds}
-use Rattle.tables.specs.declared.Job.{Job}
 use Rattle.questions.specs.Asked.{check-of}
 use Rattle.questions.specs.declared.Check.{Check as Answer}
 use Rattle.questions.specs.declared.Check.the-variants.{Pass, Refuse}
 use Rattle.questions.specs.declared.Refusal.{Refusal}
-use Rattle.model.specs.Questions.{Check, pass, refuse, _then_, ask, each, cage-questions, window-questions, lag-questions, own-questions}
+use Rattle.model.specs.Questions.{Check, pass, refuse, _then_, ask, each, horizon-right, cages-whole, cage-questions, window-questions}
 
 -- The second test counts where the first held, and not where it failed.
 pub and-yes : {x a : Bool} (b : Bool) → x ≡ a → x ≡ true → b ≡ (a && b)
@@ -59,6 +56,15 @@ all-second c p q r s = rw (← p, q, ← r, s)
 pub all-third : {x a y b z c : Bool} → x ≡ a → x ≡ true → y ≡ b → y ≡ true → z ≡ c → z ≡ (a && b && c)
 all-third p q r s t = rw (← p, q, ← r, s, t)
 
+-- The second of three tests alone is known.
+pub middle-no : (a : Bool) {b : Bool} (c : Bool) → b ≡ false → false ≡ (a && b && c)
+middle-no true c p = rw p
+middle-no false c p = refl
+
+pub middle-yes : (a : Bool) {b : Bool} (c : Bool) → b ≡ true → (a && c) ≡ (a && b && c)
+middle-yes true c p = rw p
+middle-yes false c p = refl
+
 -- A question with place 0, then the rest: the answer is no, the answer is yes.
 pub ask-no : {x t : Bool} {r : Check} (q : ℕ) (rest : Check) → x ≡ t → x ≡ false → r ≡ refuse q 0 → r ≡ (ask q t then rest)
 ask-no q rest p f e = rw (← p, f) e
@@ -80,22 +86,27 @@ then-pass p q e = rw (← p, q) e
 pub then-refuse : {x : Answer} {a : Check} {r : Refusal} (rest : Check) → check-of x ≡ a → x ≡ Refuse r → check-of x ≡ (a then rest)
 then-refuse rest p q = rw (← p, q)
 
--- The job's own questions, put to what the code holds of a call.
-pub own-asked : (k : Job) (table ws : List ℤ) (j : Call) → Holds k ws j → j .window-table ≡ table →
-    (cage-questions (k .horizon .0) (reservoir-of (k .reservoir)) then window-questions (k .horizon .0) table then lag-questions (length table / 4) ws) ≡ own-questions j
-unfolding own-questions
-own-asked k table ws j h t = rw (h .horizon-is, h .reservoir-is, h .lags-are, t)
-
 passed : (q : ℕ) (t : Bool) (rest : Check) → pass ≡ (ask q t then rest) → t ≡ true
 passed q true rest e = refl
 passed q false rest e = cc
+
+after : (q : ℕ) (t : Bool) (rest : Check) → pass ≡ (ask q t then rest) → pass ≡ rest
+after q true rest e = e
+after q false rest e = cc
 
 and-second : (a b : Bool) → (a && b) ≡ true → b ≡ true
 and-second true b e = e
 and-second false b e = cc
 
 -- Where the questions to a window table let it pass, it has at most 64 events.
-pub few-events : {x : Answer} (h : ℤ) (table : List ℤ) → check-of x ≡ window-questions h table → x ≡ Pass → length table / 4 ≤ 64
-few-events h table p q =
+pub few-events : {x : Answer} (h : ℤ) (k : ℕ) (table : List ℤ) → check-of x ≡ window-questions h k table → x ≡ Pass → length table / 5 ≤ 64
+few-events h k table p q =
     let e = rw q at p in
-    omega (arith, leb-true (length table) 256 (and-second (eqb (length table % 4) 0) (leb (length table) 256) (passed 4 _ _ e)))
+    omega (arith, leb-true (length table) 320 (and-second (eqb (length table % 5) 0) (leb (length table) 320) (passed 4 _ _ e)))
+
+-- Where those to a cage table do, it has at most 8 cages.
+pub few-cages : {x : Answer} (h : ℤ) (ws : List ℤ) → check-of x ≡ cage-questions h ws → x ≡ Pass → length ws / 4 ≤ 8
+few-cages h ws p q =
+    let e = rw q at p in
+    let t = passed 29 (cages-whole ws) _ (after 1 (horizon-right h) _ e) in
+    omega (arith, leb-true (length ws) 32 (and-second (eqb (length ws % 4) 0 && leb 4 (length ws)) (leb (length ws) 32) t))

@@ -174,7 +174,13 @@ fn main() {
     let mut turns = u64::MAX;
     while turns > 0 && s.more {
         s = step(
-            &mut piece, &mut out, s, &mut cages, &mut table, &mut lags, &mut list,
+            &mut piece,
+            &mut out,
+            s,
+            &mut cages,
+            &mut table,
+            &mut lags,
+            &mut list,
         );
         turns -= 1;
     }

@@ -1,7 +1,7 @@
--- `questions::asked::cage_questions` puts questions 1 to 3 and 22, each where those before it passed. Assumes nothing.
+-- `questions::asked::cage_questions` puts questions 1, 29, 2, 3 and 22, each where those before it passed. Assumes nothing.
 use borrow.Author.Needs.{needs}
 use borrow.Author.Tests.{not-true, not-false}
-use Rattle.questions.proofs.Questions.{ask-no, ask-yes, last-no, last-yes}
+use Rattle.questions.proofs.Questions.{ask-no, ask-yes, then-pass, then-refuse}
 use Rattle.questions.proofs.asked.cage_questions.Statement.{statement}
 use Rattle.questions.proofs.asked.cage_questions.Tie as tie
 
@@ -14,45 +14,64 @@ refuse-requires c κs = search needs
 returns : tie.Need-returns
 returns c = ask-no 1 _ (c .before .before .horizon-right .ensures) (not-true _ (c .before .if1 .taken)) (c .refuse .ensures)
 
-limits-right-requires : tie.Need-limits-right-requires
-limits-right-requires c κs = search needs
+cages-whole-requires : tie.Need-cages-whole-requires
+cages-whole-requires c κs = search needs
 
 refuse-requires-2 : tie.Need-refuse-requires-2
 refuse-requires-2 c κs = search needs
 
 returns-2 : tie.Need-returns-2
-returns-2 c = ask-yes 1 (c .before .before .before .before .horizon-right .ensures) (not-false _ (c .before .before .before .if1 .left)) (ask-no 2 _ (c .before .before .limits-right .ensures) (not-true _ (c .before .if2 .taken)) (c .refuse2 .ensures))
+returns-2 c =
+    let k = c .before .before .before in
+    ask-yes 1 (k .before .horizon-right .ensures) (not-false _ (k .if1 .left))
+    (ask-no 29 _ (c .before .before .cages-whole .ensures) (not-true _ (c .before .if2 .taken)) (c .refuse2 .ensures))
 
-stock-right-requires : tie.Need-stock-right-requires
-stock-right-requires c κs = search needs
+each-cage-requires : tie.Need-each-cage-requires
+each-cage-requires c κs = search needs
 
-refuse-requires-3 : tie.Need-refuse-requires-3
-refuse-requires-3 c κs = search needs
+enum-told : tie.Need-enum-told
+enum-told c = search needs
+
+enum-told-2 : tie.Need-enum-told-2
+enum-told-2 c = search needs
 
 returns-3 : tie.Need-returns-3
-returns-3 c = ask-yes 1 (c .before .before .before .before .before .before .horizon-right .ensures) (not-false _ (c .before .before .before .before .before .if1 .left)) (ask-yes 2 (c .before .before .before .before .limits-right .ensures) (not-false _ (c .before .before .before .if2 .left)) (ask-no 3 _ (c .before .before .stock-right .ensures) (not-true _ (c .before .if3 .taken)) (c .refuse3 .ensures)))
+returns-3 c =
+    let w = c .before .before .before in
+    let k = w .before .before in
+    ask-yes 1 (k .before .horizon-right .ensures) (not-false _ (k .if1 .left))
+    (ask-yes 29 (w .before .cages-whole .ensures) (not-false _ (w .if2 .left))
+    (then-refuse _ (c .before .before .each-cage .ensures) (c .enum-told2 .given .1)))
 
-cover-right-requires : tie.Need-cover-right-requires
-cover-right-requires c κs = search needs
+each-cage-requires-2 : tie.Need-each-cage-requires-2
+each-cage-requires-2 c κs = search needs
 
-refuse-requires-4 : tie.Need-refuse-requires-4
-refuse-requires-4 c κs = search needs
+enum-told-3 : tie.Need-enum-told-3
+enum-told-3 c = search needs
+
+enum-told-4 : tie.Need-enum-told-4
+enum-told-4 c = search needs
 
 returns-4 : tie.Need-returns-4
 returns-4 c =
-    let k = c .before .before .before .before in
-    ask-yes 1 (k .before .before .before .before .horizon-right .ensures) (not-false _ (k .before .before .before .if1 .left))
-    (ask-yes 2 (k .before .before .limits-right .ensures) (not-false _ (k .before .if2 .left))
-    (ask-yes 3 (k .stock-right .ensures) (not-false _ (c .before .before .before .if3 .left))
-    (last-no 22 (c .before .before .cover-right .ensures) (not-true _ (c .before .if4 .taken)) (c .refuse4 .ensures))))
+    let w = c .before .before .before .before .before .before in
+    let k = w .before .before in
+    ask-yes 1 (k .before .horizon-right .ensures) (not-false _ (k .if1 .left))
+    (ask-yes 29 (w .before .cages-whole .ensures) (not-false _ (w .if2 .left))
+    (then-pass (c .before .before .before .before .before .each-cage .ensures) (c .before .before .before .enum-told .given .1)
+    (then-refuse _ (c .before .before .each-cage2 .ensures) (c .enum-told4 .given .1))))
+
+each-cage-requires-3 : tie.Need-each-cage-requires-3
+each-cage-requires-3 c κs = search needs
 
 returns-5 : tie.Need-returns-5
 returns-5 c =
-    let k = c .before .before .before in
-    ask-yes 1 (k .before .before .before .before .horizon-right .ensures) (not-false _ (k .before .before .before .if1 .left))
-    (ask-yes 2 (k .before .before .limits-right .ensures) (not-false _ (k .before .if2 .left))
-    (ask-yes 3 (k .stock-right .ensures) (not-false _ (c .before .before .if3 .left))
-    (last-yes 22 (c .before .cover-right .ensures) (not-false _ (c .if4 .left)))))
+    let w = c .before .before .before .before .before .before .before in
+    let k = w .before .before in
+    ask-yes 1 (k .before .horizon-right .ensures) (not-false _ (k .if1 .left))
+    (ask-yes 29 (w .before .cages-whole .ensures) (not-false _ (w .if2 .left))
+    (then-pass (c .before .before .before .before .before .before .each-cage .ensures) (c .before .before .before .before .enum-told .given .1)
+    (then-pass (c .before .before .before .each-cage2 .ensures) (c .before .enum-told3 .given .1) (c .each-cage3 .ensures))))
 
 pub cage-questions-spec : {M : Type 1} → statement M
 cage-questions-spec =
@@ -61,13 +80,16 @@ cage-questions-spec =
     horizon-right-requires
     refuse-requires
     returns
-    limits-right-requires
+    cages-whole-requires
     refuse-requires-2
     returns-2
-    stock-right-requires
-    refuse-requires-3
+    each-cage-requires
+    enum-told
+    enum-told-2
     returns-3
-    cover-right-requires
-    refuse-requires-4
+    each-cage-requires-2
+    enum-told-3
+    enum-told-4
     returns-4
+    each-cage-requires-3
     returns-5)

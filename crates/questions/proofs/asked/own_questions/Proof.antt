@@ -1,7 +1,7 @@
--- `questions::asked::own_questions` puts questions 1 to 10 and 22 in three groups, each where those before it passed. Assumes nothing.
+-- `questions::asked::own_questions` puts the job's own questions in three groups, each where those before it passed. Assumes nothing.
 use borrow.Author.Needs.{needs}
-use mathlib.Core.Path.{_∙_}
-use Rattle.questions.proofs.Questions.{then-pass, then-refuse, own-asked, few-events}
+use Rattle.model.specs.Questions.{own-questions}
+use Rattle.questions.proofs.Questions.{then-pass, then-refuse, few-cages, few-events}
 use Rattle.questions.proofs.asked.own_questions.Statement.{statement}
 use Rattle.questions.proofs.asked.own_questions.Tie as tie
 
@@ -15,12 +15,13 @@ enum-told-2 : tie.Need-enum-told-2
 enum-told-2 c = search needs
 
 returns : tie.Need-returns
-returns c =
-    let a = c .before .before .before .before .args in
-    λ j h t. then-refuse _ (c .before .before .cage-questions .ensures) (c .enum-told2 .given .1) ∙ own-asked (a .k) (a .table .now) (a .lags .now) j h t
+unfolding own-questions
+returns c = then-refuse _ (c .before .before .cage-questions .ensures) (c .enum-told2 .given .1)
 
 window-questions-requires : tie.Need-window-questions-requires
-window-questions-requires c κs = search needs
+window-questions-requires c κs =
+    let a = c .before .before .before .args in
+    few-cages (a .h .0) (a .cages .now) (c .before .before .cage-questions .ensures) (c .enum-told .given .1)
 
 enum-told-3 : tie.Need-enum-told-3
 enum-told-3 c = search needs
@@ -29,25 +30,21 @@ enum-told-4 : tie.Need-enum-told-4
 enum-told-4 c = search needs
 
 returns-2 : tie.Need-returns-2
+unfolding own-questions
 returns-2 c =
-    let a = c .before .before .before .before .before .before .before .args in
-    λ j h t.
     then-pass (c .before .before .before .before .before .cage-questions .ensures) (c .before .before .before .enum-told .given .1)
     (then-refuse _ (c .before .before .window-questions .ensures) (c .enum-told4 .given .1))
-    ∙ own-asked (a .k) (a .table .now) (a .lags .now) j h t
 
 lag-questions-requires : tie.Need-lag-questions-requires
 lag-questions-requires c κs =
-    let a = c .before .before .before .before .before .before .before .args in
-    few-events (a .k .horizon .0) (a .table .now) (c .before .before .window-questions .ensures) (c .enum-told3 .given .1)
+    let a = c .before .before .before .before .before .before .args in
+    few-events (a .h .0) _ (a .table .now) (c .before .before .window-questions .ensures) (c .enum-told3 .given .1)
 
 returns-3 : tie.Need-returns-3
+unfolding own-questions
 returns-3 c =
-    let a = c .before .before .before .before .before .before .before .before .args in
-    λ j h t.
     then-pass (c .before .before .before .before .before .before .cage-questions .ensures) (c .before .before .before .before .enum-told .given .1)
     (then-pass (c .before .before .before .window-questions .ensures) (c .before .enum-told3 .given .1) (c .lag-questions .ensures))
-    ∙ own-asked (a .k) (a .table .now) (a .lags .now) j h t
 
 pub own-questions-spec : {M : Type 1} → statement M
 own-questions-spec =

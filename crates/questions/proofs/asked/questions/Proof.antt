@@ -16,16 +16,14 @@ enum-told-2 c = search needs
 
 returns : tie.Need-returns
 unfolding questions
-returns c =
-    λ j h t. then-refuse _ (c .before .before .own-questions .ensures j h t) (c .enum-told2 .given .1)
+returns c = then-refuse _ (c .before .before .own-questions .ensures) (c .enum-told2 .given .1)
 
 room-question-requires : tie.Need-room-question-requires
 room-question-requires c κs = search needs
 
 returns-2 : tie.Need-returns-2
 unfolding questions
-returns-2 c =
-    λ j h t. then-pass (c .before .before .before .own-questions .ensures j h t) (c .before .enum-told .given .1) (c .room-question .ensures)
+returns-2 c = then-pass (c .before .before .before .own-questions .ensures) (c .before .enum-told .given .1) (c .room-question .ensures)
 
 pub questions-spec : {M : Type 1} → statement M
 questions-spec =
