@@ -3,3 +3,4 @@ pub mod Facts
 pub mod Named
 pub mod Passing
 pub mod Widest
+pub mod Seating

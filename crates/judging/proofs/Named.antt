@@ -17,10 +17,10 @@ use Rattle.model.specs.Rules.{Rule, lag-upper, lag-lower, reservoir, rule, own-
 use Rattle.model.specs.Slips.{Explanation, number, rule-of, subject-of, target-of}
 use Rattle.model.specs.Questions.{is-event}
 use Rattle.model.specs.Reader.{has-bound, kind-fits, premises-fit, names}
-use Rattle.tables.specs.Job.{Holds}
 use Rattle.tables.specs.declared.Job.{Job}
 use Rattle.rules.specs.Values.{family-of, subjects-of}
 use Rattle.rules.proofs.Giving.{variant-is}
+use Rattle.judging.specs.Ready.{Shares}
 
 -- ---- kinds
 
@@ -50,7 +50,7 @@ module _ (ρ : Rule) (k v : ℤ) {t : Bool} (zero-kind : t ≡ eqZ k (pos 0)) wh
 
 -- ---- subjects and targets
 
-module _ {k : Job} {ws : List ℤ} {j : Call} (h : Holds k ws j) where
+module _ {k : Job} {ws : List ℤ} {j : Call} (h : Shares k ws j) where
   pub subjects-are : (ρ : Rule) → subjects ρ j ≡ subjects-of ρ k ws
   subjects-are lag-upper = rw (h .lags-are)
   subjects-are lag-lower = rw (h .lags-are)
@@ -97,7 +97,7 @@ event-is n (pos w) t =
 event-is n (negsuc w) t = absurd t
 
 -- The five tests, of the code's job.
-pub names-is : {k : Job} {ws : List ℤ} {j : Call} → Holds k ws j → (x : Explanation) →
+pub names-is : {k : Job} {ws : List ℤ} {j : Call} → Shares k ws j → (x : Explanation) →
     names j x ≡ (is-event (subjects-of (rule-of x) k ws) (x .subject) && is-event (k .events) (x .target) && premises-fit (k .events) (x .premises) && target-fits (rule-of x) j (subject-of x) (target-of x) && kind-fits (rule-of x) (x .kind) (x .value))
 unfolding names
 names-is {k} {ws} {j} h x = rw (subjects-are h (rule-of x), h .events-are)

@@ -1,17 +1,15 @@
 -- What a slip that names what is there gives its later questions.
 -- Assumes nothing.
-use mathlib.Core.Path.{_≡_, refl, ap, _∙_}
+use mathlib.Core.Path.{_≡_, refl, _∙_}
 use mathlib.Core.Bool.{Bool, true, false, _&&_}
 use mathlib.Core.List.{List}
-use Prim.Native.Nat.{ℕ, _*_, _/_, _≤_, _<_}
-use native.Mathlib.Omega.{arith}
+use Prim.Native.Nat.{ℕ}
 use lib.Dec.{T}
 use lib.IntN.{ℤ, pos, natAbs}
-use lib.ListN.{length}
 use lib.Signed.{leZ}
 use Rattle.integers.specs.Range.{Within}
 use Rattle.integers.proofs.Linear.{ints}
-use Rattle.model.specs.Job.{End, t-min, t-max, h-min, h-max, meets, Windows, produces, Inside, Job as Call, events, cage-word}
+use Rattle.model.specs.Job.{End, t-min, t-max, h-min, h-max, meets, Windows, produces, Inside, Job as Call, events}
 use Rattle.model.specs.Standing.{span, Ranged}
 use Rattle.model.specs.Rules.{subjects, target-fits}
 use Rattle.model.specs.Slips.{Premise, Explanation, rule-of, subject-of, target-of}
@@ -19,18 +17,12 @@ use Rattle.model.specs.Questions.{is-event}
 use Rattle.model.specs.Reader.{names, premises-fit, kind-fits, all-true, narrowed}
 use Rattle.model.proofs.Order.{inside-narrowed, narrowed-in}
 use Rattle.model.proofs.Sound.{named}
-use Rattle.tables.specs.Job.{Holds, Kinds, Serves, Fit}
+use Rattle.tables.specs.Job.{Kinds, Fit}
 use Rattle.tables.specs.declared.Job.{Job}
-use Rattle.tables.proofs.Holding.{serves-alike}
 use Rattle.slips.specs.Slip.{explanation-of, Stands}
 use Rattle.slips.specs.declared.Slip.{Slip}
-use Rattle.judging.specs.Ready.{call-of, Attempts, Same}
+use Rattle.judging.specs.Ready.{Shares, Attempts}
 use Rattle.judging.proofs.Named.{subjects-are, event-is}
-
-pub holds-of : {k : Job} {table : List ℤ} (ws : List ℤ) → length table ≡ 5 * k .events → ((y : ℕ) → y < k .events → cage-word table y ≡ pos 0) → Holds k ws (call-of k ws table)
-holds-of {k} {table} ws e home =
-    let count : length table / 5 ≡ k .events = omega arith in
-    record { horizon-is = refl; cages-are = refl; reservoir-is = refl; home-is = λ y l. home y (rw count at l); events-are = count; lags-are = refl }
 
 -- ---- ranges and deliveries
 
@@ -58,21 +50,7 @@ narrowed-kinds {n} {wide} {W} fs i k t y l =
 
 -- ---- its rule can be tried
 
--- On windows that agree on a board's events as well; these serve the same calls.
-pub serves-same : {k : Job} {ws : List ℤ} {W X : Windows} {j : Call} → k .events ≤ 64 → Same W X → Serves k ws X j → Serves k ws W j
-serves-same few s h = serves-alike h (λ y l. ap produces (s y (omega arith) h-max))
-
-pub attempts-same : {k : Job} {ws : List ℤ} {W X : Windows} {s : Slip} {e y : ℕ} → Same W X → Attempts k ws X s e y → Attempts k ws W s e y
-attempts-same s a =
-    let t = a .tries in
-    let r = t .windows in
-    record {
-      tries = record { fit = t .fit; windows = record { few = r .few; range = λ y l k. rw (s y (let f = r .few in omega arith) k) (r .range y l k) }; first = t .first; last = t .last; subject = t .subject; target = t .target };
-      subject = a .subject;
-      target = a .target;
-    }
-
-module _ {k : Job} {ws : List ℤ} {j : Call} (h : Holds k ws j) (list : List ℤ) (s : Slip) (t : T (names j (explanation-of list s))) where
+module _ {k : Job} {ws : List ℤ} {j : Call} (h : Shares k ws j) (list : List ℤ) (s : Slip) (t : T (names j (explanation-of list s))) where
   pub attempts : {X : Windows} {e y : ℕ} → Fit k ws → Stands list s → Ranged (k .events) X → e ≡ natAbs (s .subject .0) → y ≡ natAbs (s .target .0) → Attempts k ws X s e y
   attempts f st r p q =
       let o = named j (explanation-of list s) t in

@@ -2,34 +2,73 @@
 use mathlib.Core.Path.{_≡_}
 use mathlib.Core.Bool.{Bool, _&&_}
 use mathlib.Core.List.{List}
-use Prim.Native.Nat.{ℕ, zero, suc, _<_, _≤_}
+use Prim.Native.Nat.{ℕ, zero, suc, _*_, _<_, _≤_}
 use lib.Dec.{T}
 use lib.IntN.{ℤ, pos, natAbs}
+use lib.ListN.{length}
 use lib.Signed.{leZ}
-use Rattle.model.specs.Job.{End, meets, Windows, Inside, Job as Call}
-use Rattle.model.specs.Standing.{Ranged}
+use Rattle.model.specs.Job.{End, meets, Windows, windows, Inside, cage-at, events, Job as Call}
+use Rattle.model.specs.Standing.{Sane, Ranged}
+use Rattle.model.specs.Rules.{rule, target-fits}
 use Rattle.model.specs.Slips.{Premise, premise-event, premise-end}
 use Rattle.model.specs.Questions.{Check, pass, refuse, is-event, in-range}
 use Rattle.tables.specs.Board.{board, Whole}
-use Rattle.tables.specs.Job.{cage-words, call, Kinds, Fit}
+use Rattle.model.specs.Reader.{names}
+use Rattle.tables.specs.Job.{reservoir-of, call, Kinds}
 use Rattle.tables.specs.declared.Job.{Job}
 use Rattle.rules.specs.Values.{Tries}
+use Rattle.slips.specs.Slip.{explanation-of, Stands}
 use Rattle.slips.specs.declared.Slip.{Slip}
 
--- The call of the code's job of one cage with its lent lag words and this window table.
-abbrev pub call-of : Job → List ℤ → List ℤ → Call
-call-of k ws table = call (k .horizon .0) (cage-words (k .reservoir)) table ws
+-- The call of these cages, windows and lags, with the code's horizon.
+abbrev pub call-of : Job → List ℤ → List ℤ → List ℤ → Call
+call-of k cs table ws = call (k .horizon .0) cs table ws
+
+-- A call has the code's number of events, and its lent lag words.
+pub record Shares (k : Job) (ws : List ℤ) (j : Call) : Type 0 where
+  pub events-are : events j ≡ k .events
+  pub lags-are : j .lag-table ≡ ws
+
+-- The code's job has the call's first cage, and the call, of one cage or several, is sane.
+pub record Seated (k : Job) (cs table ws : List ℤ) : Type 0 where
+  pub sane : Sane (call-of k cs table ws)
+  pub first : cage-at cs 0 ≡ reservoir-of (k .reservoir)
+  pub long : length table ≡ 5 * k .events
 
 -- ---- a slip
 
--- The job's numbers are in range, the wide board is, and the standing windows on the board b lie inside it, with the same deliveries.
-pub record Ready (k : Job) (ws wide b : List ℤ) : Type 0 where
-  pub fit : Fit k ws
+-- The ends on the wide board are in range, and the standing windows on the board b lie inside it; both show the deliveries sent in.
+pub record Ready (k : Job) (cs table ws wide b : List ℤ) : Type 0 where
+  pub seated : Seated k cs table ws
   pub whole : Whole wide
   pub wide-range : Ranged (k .events) (board wide)
   pub range : Ranged (k .events) (board b)
   pub inside : Inside (k .events) (board wide) (board b)
-  pub kinds : Kinds (k .events) (board wide) (board b)
+  pub wide-kinds : Kinds (k .events) (board wide) (windows table)
+  pub kinds : Kinds (k .events) (board b) (windows table)
+
+-- The slip names what is there: its rule can be tried on windows W with its subject e and its target y.
+pub record Sought (k : Job) (cs table ws : List ℤ) (W : Windows) (list : List ℤ) (s : Slip) (e y : ℕ) : Type 0 where
+  pub seated : Seated k cs table ws
+  pub range : Ranged (k .events) W
+  pub kinds : Kinds (k .events) W (windows table)
+  pub stands : Stands list s
+  pub named : T (names (call-of k cs table ws) (explanation-of list s))
+  pub subject : e ≡ natAbs (s .subject .0)
+  pub target : y ≡ natAbs (s .target .0)
+
+-- The same of a rule at the event e, 3 to 14.
+pub record AtHome (k : Job) (cs table ws : List ℤ) (W : Windows) (s : Slip) (e y : ℕ) : Type 0 where
+  pub seated : Seated k cs table ws
+  pub range : Ranged (k .events) W
+  pub kinds : Kinds (k .events) W (windows table)
+  pub rule-low : 3 ≤ s .rule
+  pub rule-high : s .rule ≤ 14
+  pub event : e < k .events
+  pub there : y < k .events
+  pub fits : T (target-fits (rule (s .rule)) (call-of k cs table ws) e y)
+  pub subject : e ≡ natAbs (s .subject .0)
+  pub target : y ≡ natAbs (s .target .0)
 
 -- The slip's rule can be tried on windows W with its subject e and its target y.
 pub record Attempts (k : Job) (ws : List ℤ) (W : Windows) (s : Slip) (e y : ℕ) : Type 0 where

@@ -2,6 +2,7 @@
 use crate::naming::names;
 use crate::premises::facts_true;
 use crate::premises::narrow_by;
+use cages::mask;
 use rules::Finding;
 use rules::effects::bound_effect;
 use rules::effects::finding_effect;
@@ -14,23 +15,24 @@ use slips::words::index;
 use slips::words::word_is;
 use tables::Job;
 use tables::Word;
+use tables::cage_at;
+use tables::cage_of;
 use tables::ends::height_word;
 use tables::ends::meets;
 use tables::ends::time_word;
 ghost use mathlib.Core.Path.{_≡_};
 ghost use mathlib.Core.List.{List};
 ghost use Prim.Native.Nat.{_<_, _≤_};
-ghost use lib.Dec.{T};
 ghost use lib.IntN.{natAbs};
 ghost use Rattle.model.specs.Job.{Job as Call};
 ghost use Rattle.model.specs.Rules.{rule, own-end};
 ghost use Rattle.model.specs.Slips.{Premise};
-ghost use Rattle.model.specs.Reader.{narrowed, premises-fit, names, as-strict, gives, fits-there, slip-questions};
+ghost use Rattle.model.specs.Reader.{narrowed, as-strict, gives, fits-there, slip-questions};
 ghost use Rattle.tables.specs.Board.{board, Whole};
 ghost use Rattle.tables.specs.Job.{Serves};
 ghost use Rattle.rules.specs.Values.{finding-of};
 ghost use Rattle.slips.specs.Slip.{headed, explanation-of, Stands};
-ghost use Rattle.judging.specs.Ready.{Ready, Attempts, numbered};
+ghost use Rattle.judging.specs.Ready.{call-of, Ready, Sought, AtHome, Attempts, numbered};
 
 // Is the finding of rule r the bound v or a stricter one?
 fn as_strict(r: usize, v: Word, f: Finding) -> bool
@@ -64,10 +66,45 @@ fn rule_gives(b: &[i32; 256], lags: &[i32], k: Job, s: Slip, e: usize, y: usize)
     as_strict(r, s.value, f)
 }
 
+// 16. The same for a rule at the event e, in e's cage: the events of other cages are seen as neutral. Where the job has one cage, nothing is masked.
+fn home_gives(
+    b: &[i32; 256],
+    cages: &[i32],
+    table: &[i32],
+    lags: &[i32],
+    k: Job,
+    s: Slip,
+    e: usize,
+    y: usize,
+) -> bool
+    requires { ⌜ AtHome k (now cages) (now table) (now lags) (board (now b)) s e y ⌝ }
+    ensures { λ r. ⌜ (
+        (fs : List Premise) →
+        r ≡ gives (call-of k (now (cages .entry)) (now (table .entry)) (now (lags .entry))) (board (now (b .entry))) (headed s fs)
+        ) ⌝ }
+{
+    let h = k.horizon;
+    let n = k.events;
+    let cage = cage_at(cages, cage_of(table, e));
+    let own = Job {
+        horizon: h,
+        reservoir: cage,
+        events: n,
+    };
+    if cages.len() == 4 {
+        return rule_gives(b, lags, own, s, e, y);
+    }
+    let mut seen = [0i32; 256];
+    mask(b, table, n, e, &mut seen);
+    rule_gives(&seen, lags, own, s, e, y)
+}
+
 // 16. The same on the wide board narrowed by the slip's facts.
 fn facts_give(
     wide: &[i32; 256],
     list: &[i32],
+    cages: &[i32],
+    table: &[i32],
     lags: &[i32],
     k: Job,
     s: Slip,
@@ -75,22 +112,21 @@ fn facts_give(
     y: usize,
 ) -> bool
     requires { ⌜
-        Attempts k (now lags) (narrowed (board (now wide)) (explanation-of (now list) s .premises)) s e y
-        × Stands (now list) s
-        × T (premises-fit (k .events) (explanation-of (now list) s .premises))
+        Sought k (now cages) (now table) (now lags) (narrowed (board (now wide)) (explanation-of (now list) s .premises)) (now list) s e y
         × Whole (now wide)
         ⌝ }
-    ensures { λ r. ⌜ (
-        (j : Call) →
-        Serves k (now (lags .entry)) (narrowed (board (now (wide .entry))) (explanation-of (now (list .entry)) s .premises)) j →
-        T (names j (explanation-of (now (list .entry)) s)) →
+    ensures { λ r. ⌜
         r
-        ≡ gives j (narrowed (board (now (wide .entry))) (explanation-of (now (list .entry)) s .premises)) (explanation-of (now (list .entry)) s)
-        ) ⌝ }
+        ≡ gives (call-of k (now (cages .entry)) (now (table .entry)) (now (lags .entry)))
+        (narrowed (board (now (wide .entry))) (explanation-of (now (list .entry)) s .premises)) (explanation-of (now (list .entry)) s)
+        ⌝ }
 {
     let mut facts = *wide;
     narrow_by(&mut facts, list, s, k.events);
-    rule_gives(&facts, lags, k, s, e, y)
+    if s.rule < 3 {
+        return rule_gives(&facts, lags, k, s, e, y);
+    }
+    home_gives(&facts, cages, table, lags, k, s, e, y)
 }
 
 // 17, of kinds 1 to 4: a bound narrows the standing window without emptying it. 18, of kind 0: a conflict is the last slip counted. The number of a "no", else 0.
@@ -115,18 +151,19 @@ pub fn slip_questions(
     b: &[i32; 256],
     wide: &[i32; 256],
     list: &[i32],
+    cages: &[i32],
+    table: &[i32],
     lags: &[i32],
     k: Job,
     s: Slip,
     left: usize,
 ) -> usize
-    requires { ⌜ Ready k (now lags) (now wide) (now b) × Stands (now list) s ⌝ }
-    ensures { λ q. ⌜ (
-        (j : Call) →
-        Serves k (now (lags .entry)) (board (now (b .entry))) j →
+    requires { ⌜ Ready k (now cages) (now table) (now lags) (now wide) (now b) × Stands (now list) s ⌝ }
+    ensures { λ q. ⌜
         numbered q
-        ≡ slip-questions j (board (now (wide .entry))) (board (now (b .entry))) (explanation-of (now (list .entry)) s) left
-        ) ⌝ }
+        ≡ slip-questions (call-of k (now (cages .entry)) (now (table .entry)) (now (lags .entry)))
+        (board (now (wide .entry))) (board (now (b .entry))) (explanation-of (now (list .entry)) s) left
+        ⌝ }
 {
     if !names(list, lags, k, s) {
         return 14;
@@ -136,7 +173,7 @@ pub fn slip_questions(
     }
     let e = index(s.subject);
     let y = index(s.target);
-    if !facts_give(wide, list, lags, k, s, e, y) {
+    if !facts_give(wide, list, cages, table, lags, k, s, e, y) {
         return 16;
     }
     does_right(b, s, y, left)

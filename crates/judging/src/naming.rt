@@ -15,9 +15,10 @@ ghost use Rattle.model.specs.Job.{Job as Call};
 ghost use Rattle.model.specs.Rules.{rule, target-fits};
 ghost use Rattle.model.specs.Questions.{is-event};
 ghost use Rattle.model.specs.Reader.{has-bound, kind-fits, names};
-ghost use Rattle.tables.specs.Job.{Holds, Fit};
+ghost use Rattle.tables.specs.Job.{Fit};
 ghost use Rattle.rules.specs.Values.{subjects-of};
 ghost use Rattle.slips.specs.Slip.{explanation-of, Stands};
+ghost use Rattle.judging.specs.Ready.{Shares};
 
 // Does rule r give bounds? A level rule concludes conflict alone.
 fn gives_bound(r: usize) -> bool
@@ -61,7 +62,7 @@ fn subject_there(lags: &[i32], k: Job, r: usize, subject: Word) -> bool
 // Does the target fit the rule: a, b, or e; any event in 5, 8, 11, 14?
 fn target_right(lags: &[i32], k: Job, r: usize, e: usize, y: usize) -> bool
     requires { ⌜ (1 ≤ r) × (r ≤ 14) × Fit k (now lags) × (e < subjects-of (rule r) k (now lags)) ⌝ }
-    ensures { λ b. ⌜ ((j : Call) → Holds k (now (lags .entry)) j → b ≡ target-fits (rule r) j e y) ⌝ }
+    ensures { λ b. ⌜ ((j : Call) → Shares k (now (lags .entry)) j → b ≡ target-fits (rule r) j e y) ⌝ }
 {
     if r == 1 {
         return y == lag_event(lags, e, 0);
@@ -80,7 +81,7 @@ fn target_right(lags: &[i32], k: Job, r: usize, e: usize, y: usize) -> bool
 // 14. Do subject, target and fact events exist, are fact kinds 1..4, does the target fit the rule, and is the kind the rule's own, or 0 with value 0?
 pub fn names(list: &[i32], lags: &[i32], k: Job, s: Slip) -> bool
     requires { ⌜ Fit k (now lags) × Stands (now list) s ⌝ }
-    ensures { λ b. ⌜ ((j : Call) → Holds k (now (lags .entry)) j → b ≡ names j (explanation-of (now (list .entry)) s)) ⌝ }
+    ensures { λ b. ⌜ ((j : Call) → Shares k (now (lags .entry)) j → b ≡ names j (explanation-of (now (list .entry)) s)) ⌝ }
 {
     let r = s.rule;
     let n = k.events;

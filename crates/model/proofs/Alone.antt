@@ -113,7 +113,7 @@ module _ (j : Job) (e : ℕ) where
 
 -- ---- what is seen
 
-shown-true : (k : End) (v : ℤ) → shown true k v ≡ v
+pub shown-true : (k : End) (v : ℤ) → shown true k v ≡ v
 shown-true t-min v = refl
 shown-true t-max v = refl
 shown-true h-min v = refl
