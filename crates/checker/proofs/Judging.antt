@@ -1,9 +1,9 @@
--- The reader's whole call: questions 1 to 12, all slips, question 19, and the windows stored.
+-- The reader's whole call: its questions up to 12, all slips, question 19, and the windows stored.
 -- Assumes nothing.
 use mathlib.Core.Path.{_≡_, refl, sym, ap, subst, _∙_}
 use mathlib.Core.Bool.{Bool, true, false, not, cond}
 use mathlib.Core.List.{List}
-use Prim.Native.Nat.{ℕ, _+_, _*_, _≤_}
+use Prim.Native.Nat.{ℕ, _+_, _*_, _/_, _≤_}
 use native.Mathlib.Omega.{arith}
 use lib.IntN.{ℤ, pos, natAbs}
 use lib.ListN.{length}
@@ -11,14 +11,14 @@ use lib.Signed.{leZ}
 use borrow.Author.Tests.{not-true, not-false}
 use Rattle.integers.specs.Range.{eqZ}
 use Rattle.integers.proofs.Tests.{and-out, true-is}
-use Rattle.model.specs.Job.{widest, Job as Call, events}
+use Rattle.model.specs.Job.{widest, cage-at, Job as Call}
 use Rattle.model.specs.Slips.{at}
 use Rattle.model.specs.Questions.{pass, refuse, questions}
 use Rattle.model.specs.Reader.{stop-of, counted, marked, ends-right, read-from, read-all, judged, check}
 use Rattle.model.specs.Reader as model
 use Rattle.model.proofs.Questions.{Asked, asked}
 use Rattle.tables.specs.Board.{board, table-of, Loaded}
-use Rattle.tables.specs.Job.{Holds}
+use Rattle.tables.specs.Job.{reservoir-of, call}
 use Rattle.tables.specs.declared.Job.{Job}
 use Rattle.questions.specs.Asked.{check-of}
 use Rattle.questions.specs.declared.Refusal.{Refusal}
@@ -26,7 +26,7 @@ use Rattle.questions.specs.declared.Check.{Check as Asks}
 use Rattle.questions.specs.declared.Check.the-variants.{Pass, Refuse}
 use Rattle.judging.specs.Ready.{call-of}
 use Rattle.judging.specs.Wide.{Wide}
-use Rattle.checker.specs.Turns.{board-call, Called, Ends}
+use Rattle.checker.specs.Turns.{Called, Ends}
 use Rattle.checker.specs.Judgement.{reply-of, accepting, left-by, closing-reply, Passing, Trailed, Judges}
 use Rattle.checker.specs.declared.SlipsRead.{SlipsRead}
 use Rattle.checker.specs.declared.SlipsRead.the-variants.{All, Refused as Cut}
@@ -34,43 +34,39 @@ use Rattle.checker.specs.declared.Tail.{Tail}
 use Rattle.checker.specs.declared.Judgement.{Judgement}
 use Rattle.checker.specs.declared.Judgement.the-variants.{Refused}
 
--- The code's job is the call's, all of it.
-pub call-is : {k : Job} {ws : List ℤ} {j : Call} → Holds k ws j → call-of k ws (j .window-table) ≡ j
-call-is h = rw (← h .horizon-is, ← h .reservoir-is, ← h .lags-are)
-
 -- ---- the judgement on a reading
 
-module _ (k : Job) (ws list b b′ : List ℤ) where
+module _ (k : Job) (cs table ws list b′ : List ℤ) where
   abbrev n : ℕ
   n = k .events
 
   abbrev j : Call
-  j = board-call k ws b
+  j = call-of k cs table ws
 
   abbrev reading-over : model.Read
-  reading-over = read-from j (widest j) list (stop-of list) (natAbs (counted list)) 0 0 0 false (table-of n b)
+  reading-over = read-from j (widest j) list (stop-of list) (natAbs (counted list)) 0 0 0 false table
 
   abbrev Judged : Judgement → Type 0
-  Judged v = Judges (judged j list (read-all j list)) (left-by v (table-of n b′) (table-of n b)) v
+  Judged v = Judges (judged j list (read-all j list)) (left-by v (table-of n table b′) table) v
 
   -- All slips read: question 19 decides, and the windows left follow it.
   closed-judged : (t : Tail) (c : Bool) → ends-right list (t .after) (t .last) ≡ c → (v : Judgement) → reply-of v ≡ closing-reply list t →
-      Judges (judged j list (record { check = pass; conflicting = t .conflict; table = table-of n b′; after = t .after; last = t .last })) (left-by v (table-of n b′) (table-of n b)) v
+      Judges (judged j list (record { check = pass; conflicting = t .conflict; table = table-of n table b′; after = t .after; last = t .last })) (left-by v (table-of n table b′) table) v
   closed-judged t true e v g = record { answer = g ∙ rw (judged, e) refl; windows = rw (g, judged, e) refl }
   closed-judged t false e v g = record { answer = g ∙ rw (judged, e) refl; windows = rw (g, judged, e) refl }
 
   -- A refused slip: no window is left narrowed.
-  cut-judged : (r : model.Read) (q : Refusal) → r .check ≡ refuse (q .number) (q .place) → Judges (judged j list r) (left-by (Refused q) (table-of n b′) (table-of n b)) (Refused q)
+  cut-judged : (r : model.Read) (q : Refusal) → r .check ≡ refuse (q .number) (q .place) → Judges (judged j list r) (left-by (Refused q) (table-of n table b′) table) (Refused q)
   cut-judged r q e = record { answer = rw (judged, e) refl; windows = rw (judged, e) refl }
 
-  module _ {e : SlipsRead} (ends : Ends n reading-over b′ (stop-of list) e) where
+  module _ {e : SlipsRead} (ends : Ends n table reading-over b′ (stop-of list) e) where
     pub judges-cut : (q : Refusal) → e ≡ Cut q → Judged (Refused q)
     unfolding read-all
-    judges-cut q f = cut-judged reading-over q (subst (Ends n reading-over b′ (stop-of list)) f ends)
+    judges-cut q f = cut-judged reading-over q (subst (Ends n table reading-over b′ (stop-of list)) f ends)
 
     module _ (t : Tail) (f : e ≡ All t) where
-      all-out : Ends n reading-over b′ (stop-of list) (All t)
-      all-out = subst (Ends n reading-over b′ (stop-of list)) f ends
+      all-out : Ends n table reading-over b′ (stop-of list) (All t)
+      all-out = subst (Ends n table reading-over b′ (stop-of list)) f ends
 
       pub last-in : t .last ≤ stop-of list
       last-in = all-out .2
@@ -81,9 +77,9 @@ module _ (k : Job) (ws list b b′ : List ℤ) where
 
 -- ---- the call read
 
-module _ (k : Job) (ws table list : List ℤ) (p : Passing k ws table list) where
-  facts : Asked (call-of k ws table) (length list)
-  facts = asked (call-of k ws table) (length list) (p .asked)
+module _ (h : ℤ) (cs table ws list : List ℤ) (p : Passing h cs table ws list) where
+  facts : Asked (call h cs table ws) (length list)
+  facts = asked (call h cs table ws) (length list) (p .asked)
 
   pub trailer-right : Trailed list
   trailer-right =
@@ -93,23 +89,30 @@ module _ (k : Job) (ws table list : List ℤ) (p : Passing k ws table list) wher
         sign = and-out (eqZ (at list (stop-of list + 2)) (pos 4207)) (leZ (pos 0) (counted list)) (true-is (p .trailer)) .1;
       }
 
-  pub few : k .events ≤ 64
-  few = let l = facts .sane .few-events in omega (arith, p .events-are)
+  pub some-cage : 4 ≤ length cs
+  some-cage = let l = facts .sane .some-cage in omega arith
 
-  pub whole-events : length table ≡ 4 * k .events
-  whole-events = omega (arith, p .events-are, facts .whole-events)
+  pub few : length table / 5 ≤ 64
+  few = facts .sane .few-events
 
-  module _ (b wide : List ℤ) (loaded : Loaded (k .events) table b) (opened : Wide (k .events) (k .horizon .0) (board b) wide) where
-    pub call : Called k ws wide b
-    call = record { sane = rw (loaded .is) (facts .sane); standing = rw (loaded .is) (facts .standing); whole = loaded .whole; opened = opened }
+  pub whole-events : length table ≡ 5 * (length table / 5)
+  whole-events = facts .whole-events
 
-    -- The windows stored follow the judgement.
-    pub stored : (b′ : List ℤ) {table′ : List ℤ} (v : Judgement) {whole : Bool} → whole ≡ accepting v → table′ ≡ cond whole (table-of (k .events) b′) table →
-        Judges (judged (board-call k ws b) list (read-all (board-call k ws b) list)) (left-by v (table-of (k .events) b′) (table-of (k .events) b)) v →
-        Judges (judged (call-of k ws table) list (read-all (call-of k ws table) list)) table′ v
-    stored b′ v e w o = let q = rw (loaded .is) at o in record { answer = q .answer; windows = w ∙ rw e (q .windows) }
+  pub called : (k : Job) (b wide : List ℤ) → k .horizon .0 ≡ h → reservoir-of (k .reservoir) ≡ cage-at cs 0 → k .events ≡ length table / 5 → Loaded (k .events) table b → Wide (k .events) (k .horizon .0) (board b) wide → Called k cs table ws wide b
+  called k b wide e c m l o =
+      record {
+        seated = record { sane = rw e (facts .sane); first = sym c; long = rw m whole-events };
+        standing = rw e (facts .standing);
+        loaded = l;
+        opened = o;
+      }
 
--- ---- questions 1 to 12
+-- The windows stored follow the judgement.
+pub stored : (j : Call) (list left : List ℤ) {table′ : List ℤ} (v : Judgement) {whole : Bool} → whole ≡ accepting v → table′ ≡ cond whole left (j .window-table) →
+    Judges (judged j list (read-all j list)) (left-by v left (j .window-table)) v → Judges (judged j list (read-all j list)) table′ v
+stored j list left v e w o = record { answer = o .answer; windows = w ∙ rw e (o .windows) }
+
+-- ---- the questions up to 12
 
 module _ (j : Call) (list : List ℤ) {x : Asks} (ea : check-of x ≡ questions j (length list)) where
   pub check-refused : (r : Refusal) → x ≡ Refuse r → Judges (check j list) (j .window-table) (Refused r)

@@ -15,18 +15,17 @@ use Rattle.model.specs.Slips.{slip-at}
 use Rattle.model.specs.Questions.{pass, refuse, _then_, ask}
 use Rattle.model.specs.Reader.{whole, read-from}
 use Rattle.model.proofs.Order.{inside-refl}
+use Rattle.model.proofs.Levels.{kind-kept}
 use Rattle.model.proofs.Agree.{Agree, slip-questions-agree}
 use Rattle.model.proofs.Ranges.{end-range}
 use Rattle.model.proofs.Accepted.{passed, passed-standing}
 use Rattle.tables.specs.Board.{board, table-of, Whole as Full}
-use Rattle.tables.specs.Job.{Holds, Serves}
 use Rattle.tables.specs.declared.Job.{Job}
 use Rattle.tables.proofs.Board.{windows-board, length-table}
-use Rattle.tables.proofs.Holding.{fit-of, serves-standing, serves-alike}
-use Rattle.judging.specs.Ready.{Ready}
+use Rattle.judging.specs.Ready.{call-of, Ready}
 use Rattle.judging.specs.Wide.{opened}
-use Rattle.judging.proofs.Passing.{holds-of}
-use Rattle.checker.specs.Turns.{slip-asked, Stepped, board-call, Called}
+use Rattle.judging.proofs.Seating.{events-are}
+use Rattle.checker.specs.Turns.{slip-asked, Stepped, Called}
 use Rattle.checker.specs.declared.Step.{Step}
 use Rattle.checker.specs.declared.Step.the-variants.{On, No}
 use Rattle.checker.proofs.Turning.{reads-off, reads-on}
@@ -37,8 +36,8 @@ pub record At (n : ℕ) (j : Call) (list : List ℤ) (stop count : ℕ) (b : Lis
   pub before-stop : p ≤ stop
   pub last-in : last ≤ stop
   pub whole : Full b
-  pub standing : Standing j (windows (table-of n b))
-  pub same : read-from j (widest j) list stop (count - i) i p last conflict (table-of n b) ≡ read-from j (widest j) list stop count 0 0 0 false (j .window-table)
+  pub standing : Standing j (windows (table-of n (j .window-table) b))
+  pub same : read-from j (widest j) list stop (count - i) i p last conflict (table-of n (j .window-table) b) ≡ read-from j (widest j) list stop count 0 0 0 false (j .window-table)
 
 -- ---- the widest windows
 
@@ -59,56 +58,66 @@ widest-stands {j} s = record { within = inside-refl (events j) (widest j); times
 
 -- ---- the loop
 
-module _ (k : Job) (ws wide b₀ list : List ℤ) (stop count : ℕ) (call : Called k ws wide b₀) where
+module _ (k : Job) (cs table ws wide b₀ list : List ℤ) (stop count : ℕ) (call : Called k cs table ws wide b₀) where
   abbrev n : ℕ
   n = k .events
 
   abbrev j : Call
-  j = board-call k ws b₀
+  j = call-of k cs table ws
 
-  holds : Holds k ws j
-  holds = holds-of ws (length-table n b₀)
+  abbrev sane : Sane j
+  sane = call .seated .sane
 
-  on-board : (b : List ℤ) → Agree n (board b) (windows (table-of n b))
-  on-board b y l i = sym (windows-board n b y i l)
+  count-is : events j ≡ n
+  count-is = events-are k cs table ws (call .seated)
+
+  on-board : (b : List ℤ) → Agree n (board b) (windows (table-of n table b))
+  on-board b y l i = sym (windows-board n table b y i l)
+
+  sent-here : (y : ℕ) → y < n → board b₀ y h-max ≡ sent j y h-max
+  sent-here y l = on-board b₀ y l h-max ∙ ap (λ (t : List ℤ). windows t y h-max) (call .loaded .is)
 
   opened-wide : Agree n (board wide) (widest j)
-  opened-wide y l i = call .opened .is y l i ∙ widest-is j (board b₀) y i (on-board b₀ y l h-max)
+  opened-wide y l i = call .opened .is y l i ∙ widest-is j (board b₀) y i (sent-here y l)
 
   -- The job's events are those on the board.
   there : {y : ℕ} → y < n → y < events j
-  there l = rw (holds .events-are) l
+  there l = rw count-is l
 
   -- Windows that stand show the deliveries sent in.
   kept : {W : Windows} → Standing j W → (y : ℕ) → y < n → produces (W y h-max) ≡ produces (sent j y h-max)
-  kept s y l = serves-standing holds s .kinds y (there l)
+  kept {W} s y l = kind-kept j W (s .within) (s .heights) y (there l)
 
   pub begins : At n j list stop count b₀ 0 0 0 false
   begins =
       let i : count - 0 ≡ count = omega arith in
-      record { some = omega arith; before-stop = omega arith; last-in = omega arith; whole = call .whole; standing = call .standing; same = rw i }
+      record {
+        some = omega arith;
+        before-stop = omega arith;
+        last-in = omega arith;
+        whole = call .loaded .whole;
+        standing = rw (call .loaded .is) (call .standing);
+        same = rw (i, call .loaded .is);
+      }
 
   module _ (b : List ℤ) (i p last : ℕ) (conflict : Bool) (here : At n j list stop count b i p last conflict) where
-    pub ready : Ready k ws wide b
+    pub ready : Ready k cs table ws wide b
     ready =
-        let s = call .sane in
-        let f = fit-of holds s in
+        let few = rw count-is at (sane .few-events) in
         record {
-          fit = f;
+          seated = call .seated;
           whole = call .opened .whole;
-          wide-range = record { few = f .few-events; range = λ y l e. rw (opened-wide y l e) (end-range s (widest-stands s) y (there l) e) };
-          range = record { few = f .few-events; range = λ y l e. rw (on-board b y l e) (end-range s (here .standing) y (there l) e) };
+          wide-range = record { few = few; range = λ y l e. rw (opened-wide y l e) (end-range sane (widest-stands sane) y (there l) e) };
+          range = record { few = few; range = λ y l e. rw (on-board b y l e) (end-range sane (here .standing) y (there l) e) };
           inside = record { inside = λ y l e. rw (opened-wide y l e, on-board b y l e) (here .standing .within .inside y (there l) e) };
-          kinds = λ y l. ap produces (opened-wide y l h-max) ∙ kept (widest-stands s) y l ∙ sym (ap produces (on-board b y l h-max) ∙ kept (here .standing) y l);
+          wide-kinds = λ y l. ap produces (opened-wide y l h-max) ∙ kept (widest-stands sane) y l;
+          kinds = λ y l. ap produces (on-board b y l h-max) ∙ kept (here .standing) y l;
         }
 
-    pub serves : Serves k ws (board b) j
-    serves = serves-alike (serves-standing holds (here .standing)) (λ y l. ap produces (on-board b y l h-max))
-
-    same-asked : (left : ℕ) → slip-asked j (board wide) (board b) list stop p left ≡ slip-asked j (widest j) (windows (table-of n b)) list stop p left
+    same-asked : (left : ℕ) → slip-asked j (board wide) (board b) list stop p left ≡ slip-asked j (widest j) (windows (table-of n table b)) list stop p left
     same-asked left =
         ap (λ c. ask 13 (whole list stop p) then c)
-        (slip-questions-agree j (board wide) (widest j) (board b) (windows (table-of n b)) (rw (holds .events-are) opened-wide) (rw (holds .events-are) (on-board b)) (call .sane) (slip-at list p) left)
+        (slip-questions-agree j (board wide) (widest j) (board b) (windows (table-of n table b)) (rw count-is opened-wide) (rw count-is (on-board b)) sane (slip-at list p) left)
 
     one-more : i < count → count - i ≡ suc (count - i - 1)
     one-more l = omega arith
@@ -116,17 +125,17 @@ module _ (k : Job) (ws wide b₀ list : List ℤ) (stop count : ℕ) (call : Cal
     pub refuses : (b′ : List ℤ) (q : ℕ) → i < count → Stepped n j (board wide) list stop p (count - i - 1) b b′ (No q) →
         read-from j (widest j) list stop count 0 0 0 false (j .window-table) .check ≡ refuse q i
     refuses b′ q l e =
-        rw (← here .same, one-more l) (reads-off j (widest j) list stop i p last conflict (table-of n b) (count - i - 1) q (sym (same-asked (count - i - 1)) ∙ e))
+        rw (← here .same, one-more l) (reads-off j (widest j) list stop i p last conflict (table-of n table b) (count - i - 1) q (sym (same-asked (count - i - 1)) ∙ e))
 
     pub goes-on : (b′ : List ℤ) (next : ℕ) (clash : Bool) → i < count → Stepped n j (board wide) list stop p (count - i - 1) b b′ (On next clash) →
         At n j list stop count b′ (i + 1) next p clash
     goes-on b′ next clash l e =
         let left = count - i - 1 in
         let x = slip-at list p in
-        let r = reads-on j (widest j) list stop i p last conflict (table-of n b) left (sym (same-asked left) ∙ e .0) in
+        let r = reads-on j (widest j) list stop i p last conflict (table-of n table b) left (sym (same-asked left) ∙ e .0) in
         let m : count - (i + 1) ≡ left = omega arith in
-        let long : length (table-of n b) ≡ 4 * events j = length-table n b ∙ rw (holds .events-are) in
-        let q = passed-standing j (widest j) (table-of n b) x left long (here .standing) (passed j (widest j) (windows (table-of n b)) x left (r .1)) in
+        let long : length (table-of n table b) ≡ 5 * events j = length-table n table b ∙ rw count-is in
+        let q = passed-standing j (widest j) (table-of n table b) x left long (here .standing) (passed j (widest j) (windows (table-of n table b)) x left (r .1)) in
         record {
           some = omega arith;
           before-stop = e .5;
@@ -138,7 +147,7 @@ module _ (k : Job) (ws wide b₀ list : List ℤ) (stop count : ℕ) (call : Cal
 
     pub finishes : count ≤ i →
         read-from j (widest j) list stop count 0 0 0 false (j .window-table)
-        ≡ record { check = pass; conflicting = conflict; table = table-of n b; after = p; last = last }
+        ≡ record { check = pass; conflicting = conflict; table = table-of n table b; after = p; last = last }
     unfolding read-from
     finishes l = let m : count - i ≡ 0 = omega arith in sym (here .same) ∙ rw m
 

@@ -17,22 +17,21 @@ use Rattle.model.proofs.Questions.{refusal}
 use Rattle.model.proofs.Accepted.{passed}
 use Rattle.model.proofs.Sound.{named}
 use Rattle.tables.specs.Board.{table-of, Whole as Full}
-use Rattle.tables.specs.Job.{Holds, Fit}
 use Rattle.tables.specs.declared.Job.{Job}
 use Rattle.tables.proofs.Board.{table-set}
 use Rattle.slips.specs.Slip.{headed, explanation-of, reading-of, Placed, Stands}
 use Rattle.slips.specs.declared.Slip.{Slip}
 use Rattle.slips.specs.declared.SlipRead.{SlipRead}
 use Rattle.slips.specs.declared.SlipRead.the-variants.{Whole, Cut}
-use Rattle.judging.specs.Ready.{numbered}
+use Rattle.judging.specs.Ready.{Shares, numbered}
 use Rattle.judging.proofs.Passing.{header-signs}
 use Rattle.checker.specs.Turns.{Applies, slip-asked}
 
 -- ---- the narrowing made
 
-module _ (n : ℕ) (b : List ℤ) (full : Full b) (s : Slip) (fs : List Premise) {t : Bool} (zero-kind : t ≡ eqZ (s .kind .0) (pos 0)) where
+module _ (n : ℕ) (sent b : List ℤ) (full : Full b) (s : Slip) (fs : List Premise) {t : Bool} (zero-kind : t ≡ eqZ (s .kind .0) (pos 0)) where
   abbrev Done : Bool → List ℤ → Type 0
-  Done c b′ = (c ≡ is-conflict (headed s fs)) × Full b′ × (table-of n b′ ≡ applied (table-of n b) (headed s fs))
+  Done c b′ = (c ≡ is-conflict (headed s fs)) × Full b′ × (table-of n sent b′ ≡ applied (table-of n sent b) (headed s fs))
 
   pub none-made : t ≡ true → Done true b
   none-made e = let k = sym zero-kind ∙ e in (sym k, full, rw k)
@@ -40,7 +39,7 @@ module _ (n : ℕ) (b : List ℤ) (full : Full b) (s : Slip) (fs : List Premise)
   pub one-made : {b′ : List ℤ} (y k : ℕ) → t ≡ false → end k ≡ own-end (rule (s .rule)) → y ≡ natAbs (s .target .0) → y < n → n ≤ 64 → b′ ≡ set b (64 * word (end k) + y) (s .value .0) → Done false b′
   one-made {b′} y k e o q l m g =
       let z = sym zero-kind ∙ e in
-      (sym z, ap length g ∙ length-set b (64 * word (end k) + y) (s .value .0) ∙ full, rw z (rw (g, o, ← q) (table-set n b full y (own-end (rule (s .rule))) (s .value .0) l m)))
+      (sym z, ap length g ∙ length-set b (64 * word (end k) + y) (s .value .0) ∙ full, rw z (rw (g, o, ← q) (table-set n sent b full y (own-end (rule (s .rule))) (s .value .0) l m)))
 
 -- ---- one slip
 
@@ -85,11 +84,11 @@ pub passes : {q : ℕ} {k : Check} → q ≡ 0 → numbered q ≡ k → k ≡ pa
 passes {q} f e = sym e ∙ ap numbered f
 
 -- A slip that passed can be applied.
-pub applies-is : {k : Job} {ws : List ℤ} {j : Call} → Holds k ws j → Fit k ws → (wide W : Windows) (list : List ℤ) (s : Slip) (left : ℕ) → Stands list s → slip-questions j wide W (explanation-of list s) left ≡ pass → Applies (k .events) s
-applies-is {k} {ws} {j} h f wide W list s left st e =
+pub applies-is : {k : Job} {ws : List ℤ} {j : Call} → Shares k ws j → k .events ≤ 64 → (wide W : Windows) (list : List ℤ) (s : Slip) (left : ℕ) → Stands list s → slip-questions j wide W (explanation-of list s) left ≡ pass → Applies (k .events) s
+applies-is {k} {ws} {j} h few wide W list s left st e =
     let p = passed j wide W (explanation-of list s) left e in
     let o = named j (explanation-of list s) (p .named) in
-    record { few = f .few-events; rule-low = st .rule-low; rule-high = st .rule-high; sign = header-signs j (explanation-of list s) (p .named) .1; event = rw (← h .events-are) (o .target-real) }
+    record { few = few; rule-low = st .rule-low; rule-high = st .rule-high; sign = header-signs j (explanation-of list s) (p .named) .1; event = rw (← h .events-are) (o .target-real) }
 
 -- ---- all slips in turn
 

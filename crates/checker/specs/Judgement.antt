@@ -2,7 +2,7 @@
 use mathlib.Core.Path.{_≡_}
 use mathlib.Core.Bool.{Bool, true, false, cond}
 use mathlib.Core.List.{List}
-use Prim.Native.Nat.{_/_, _≤_}
+use Prim.Native.Nat.{_≤_}
 use lib.Dec.{T}
 use lib.IntN.{ℤ, pos}
 use lib.ListN.{length}
@@ -11,8 +11,7 @@ use Rattle.model.specs.Rounds.{conflict, still-open}
 use Rattle.model.specs.Questions.{pass, questions}
 use Rattle.model.specs.Planner.{Reply, refused, done, Outcome}
 use Rattle.model.specs.Reader.{counted, marked, ends-right, accepted}
-use Rattle.tables.specs.declared.Job.{Job}
-use Rattle.judging.specs.Ready.{call-of}
+use Rattle.tables.specs.Job.{call}
 use Rattle.checker.specs.declared.Tail.{Tail}
 use Rattle.checker.specs.declared.Judgement.{Judgement}
 use Rattle.checker.specs.declared.Judgement.the-variants.{Open, Conflict, Refused}
@@ -40,10 +39,9 @@ abbrev pub closing-reply : List ℤ → Tail → Reply
 closing-reply list t =
     cond (ends-right list (t .after) (t .last)) (done (accepted (t .conflict)) 0 0 0) (refused 19 0)
 
--- A call whose questions 1 to 12 passed.
-pub record Passing (k : Job) (ws table list : List ℤ) : Type 0 where
-  pub events-are : k .events ≡ length table / 4
-  pub asked : questions (call-of k ws table) (length list) ≡ pass
+-- A call whose questions up to 12 passed.
+pub record Passing (h : ℤ) (cs table ws list : List ℤ) : Type 0 where
+  pub asked : questions (call h cs table ws) (length list) ≡ pass
   pub trailer : marked list ≡ true
 
 -- A list with room for a trailer and a count that is not negative.

@@ -6,15 +6,15 @@ use lib.Dec.{T}
 use lib.IntN.{ℤ, pos, natAbs}
 use lib.Signed.{leZ}
 use Rattle.model.specs.Job.{Windows, sent, Job as Call}
-use Rattle.model.specs.Standing.{Sane, Standing}
+use Rattle.model.specs.Standing.{Standing}
 use Rattle.model.specs.Slips.{slip-length, premise-count, slip-at}
 use Rattle.model.specs.Questions.{Check, pass, refuse, _then_, ask}
 use Rattle.model.specs.Reader as model
 use Rattle.model.specs.Reader.{whole, slip-questions, is-conflict, applied}
-use Rattle.tables.specs.Board.{board, table-of, Whole as Full}
+use Rattle.tables.specs.Board.{board, table-of, Loaded, Whole as Full}
 use Rattle.tables.specs.declared.Job.{Job}
 use Rattle.slips.specs.declared.Slip.{Slip}
-use Rattle.judging.specs.Ready.{call-of}
+use Rattle.judging.specs.Ready.{call-of, Seated}
 use Rattle.judging.specs.Wide.{Wide}
 use Rattle.checker.specs.declared.SlipsRead.{SlipsRead}
 use Rattle.checker.specs.declared.SlipsRead.the-variants.{All, Refused}
@@ -43,32 +43,28 @@ Stepped n j wide list stop p left b b′ (On next c) =
     (slip-asked j wide (board b) list stop p left ≡ pass)
     × (next ≡ p + slip-length (premise-count list p))
     × (c ≡ is-conflict (slip-at list p))
-    × (table-of n b′ ≡ applied (table-of n b) (slip-at list p))
+    × (table-of n (j .window-table) b′ ≡ applied (table-of n (j .window-table) b) (slip-at list p))
     × Full b′
     × (next ≤ stop)
 
 -- ---- all slips
 
--- The call whose windows sent in are those on the board b.
-abbrev pub board-call : Job → List ℤ → List ℤ → Call
-board-call k ws b = call-of k ws (table-of (k .events) b)
-
--- Its questions before 12 passed, and the widest windows are on the wide board.
-pub record Called (k : Job) (ws wide b : List ℤ) : Type 0 where
-  pub sane : Sane (board-call k ws b)
-  pub standing : Standing (board-call k ws b) (sent (board-call k ws b))
-  pub whole : Full b
+-- Its questions before 12 passed, its windows are on the board b, and the widest on the wide board.
+pub record Called (k : Job) (cs table ws wide b : List ℤ) : Type 0 where
+  pub seated : Seated k cs table ws
+  pub standing : Standing (call-of k cs table ws) (sent (call-of k cs table ws))
+  pub loaded : Loaded (k .events) table b
   pub opened : Wide (k .events) (k .horizon .0) (board b) wide
 
--- What reading leaves: refused, or all read with the windows on the board.
-abbrev pub Ends : ℕ → model.Read → List ℤ → ℕ → SlipsRead → Type 0
-Ends n r b′ stop (Refused k) = r .check ≡ refuse (k .number) (k .place)
-Ends n r b′ stop (All t) =
+-- What reading leaves, of a window table that was sent in: refused, or all read with the windows on the board.
+abbrev pub Ends : ℕ → List ℤ → model.Read → List ℤ → ℕ → SlipsRead → Type 0
+Ends n sent r b′ stop (Refused k) = r .check ≡ refuse (k .number) (k .place)
+Ends n sent r b′ stop (All t) =
     (r
     ≡ record {
       check = pass;
       conflicting = t .conflict;
-      table = table-of n b′;
+      table = table-of n sent b′;
       after = t .after;
       last = t .last;
     })

@@ -12,18 +12,18 @@ use slips::words::index;
 use slips::words::not_negative;
 use slips::words::word_is;
 use tables::Job;
-use tables::job_of;
+use tables::Time;
+use tables::cage_at;
 use tables::load;
 use tables::unload;
 ghost use mathlib.Core.Path.{_≡_};
 ghost use mathlib.Core.Bool.{cond};
-ghost use Prim.Native.Nat.{_*_, _/_, _<_, _≤_};
-ghost use lib.ListN.{length};
-ghost use Rattle.model.specs.Job.{job};
+ghost use Prim.Native.Nat.{_*_, _<_, _≤_};
 ghost use Rattle.model.specs.Reader.{marked, ends-right, read-all, judged, check};
 ghost use Rattle.tables.specs.Board.{table-of};
+ghost use Rattle.tables.specs.Job.{call};
 ghost use Rattle.judging.specs.Ready.{call-of};
-ghost use Rattle.checker.specs.Turns.{board-call, Called};
+ghost use Rattle.checker.specs.Turns.{Called};
 ghost use Rattle.checker.specs.Judgement.{reply-of, accepting, left-by, closing-reply, Passing, Trailed, Judges};
 
 // One slip read and asked: the place after it and whether it is a conflict, or the number of a refusal.
@@ -102,22 +102,24 @@ fn judge_slips(
     b: &mut [i32; 256],
     wide: &[i32; 256],
     list: &[i32],
+    cages: &[i32],
+    table: &[i32],
     lags: &[i32],
     k: Job,
 ) -> Judgement
-    requires { ⌜ Called k (now lags) (now wide) (now b) × Trailed (now list) ⌝ }
+    requires { ⌜ Called k (now cages) (now table) (now lags) (now wide) (now b) × Trailed (now list) ⌝ }
     ensures { λ v. ⌜
         Judges
-        (judged (board-call k (now (lags .entry)) (now (b .entry))) (now (list .entry))
-        (read-all (board-call k (now (lags .entry)) (now (b .entry))) (now (list .entry))))
-        (left-by v (table-of (k .events) (now (b .exit))) (table-of (k .events) (now (b .entry))))
+        (judged (call-of k (now (cages .entry)) (now (table .entry)) (now (lags .entry))) (now (list .entry))
+        (read-all (call-of k (now (cages .entry)) (now (table .entry)) (now (lags .entry))) (now (list .entry))))
+        (left-by v (table-of (k .events) (now (table .entry)) (now (b .exit))) (now (table .entry)))
         v
         ⌝ }
 {
     let trailer = trailer_of(list);
     let count = index(trailer.slips);
     let stop = list.len() - 3;
-    let read = read_slips(b, wide, list, lags, k, stop, count);
+    let read = read_slips(b, wide, list, cages, table, lags, k, stop, count);
     match read {
         SlipsRead::Refused(r) => Judgement::Refused(r),
         SlipsRead::All(tail) => closing(list, tail),
@@ -137,42 +139,47 @@ fn accepts(v: Judgement) -> bool
 
 // The windows on the board stored in the table, if they are to be; else no word of it changes.
 fn leave(b: &[i32; 256], n: usize, table: &mut [i32], whole: bool)
-    requires { do ⌜ (n ≤ 64) × ((← ⟦table.len()⟧) ≡ 4 * n) ⌝ }
-    ensures { λ r. ⌜ now (table .exit) ≡ cond whole (table-of n (now (b .entry))) (now (table .entry)) ⌝ }
+    requires { do ⌜ (n ≤ 64) × ((← ⟦table.len()⟧) ≡ 5 * n) ⌝ }
+    ensures { λ r. ⌜ now (table .exit) ≡ cond whole (table-of n (now (table .entry)) (now (b .entry))) (now (table .entry)) ⌝ }
 {
     if whole {
         unload(b, n, table);
     }
 }
 
-// 13 to 19 of a call whose questions 1 to 12 passed. The windows are stored once, at the end, and only if the whole list is accepted.
-fn judge(k: Job, table: &mut [i32], lags: &[i32], list: &[i32]) -> Judgement
-    requires { ⌜ Passing k (now lags) (now table) (now list) ⌝ }
+// 13 to 19 of a call whose questions up to 12 passed. The windows are stored once, at the end, and only if the whole list is accepted.
+fn judge(h: Time, cages: &[i32], table: &mut [i32], lags: &[i32], list: &[i32]) -> Judgement
+    requires { ⌜ Passing (h .0) (now cages) (now table) (now lags) (now list) ⌝ }
     ensures { λ v. ⌜
         Judges
-        (judged (call-of k (now (lags .entry)) (now (table .entry))) (now (list .entry))
-        (read-all (call-of k (now (lags .entry)) (now (table .entry))) (now (list .entry))))
+        (judged (call (h .0) (now (cages .entry)) (now (table .entry)) (now (lags .entry))) (now (list .entry))
+        (read-all (call (h .0) (now (cages .entry)) (now (table .entry)) (now (lags .entry))) (now (list .entry))))
         (now (table .exit))
         v
         ⌝ }
 {
-    let n = k.events;
+    let n = table.len() / 5;
+    let first = cage_at(cages, 0);
+    let k = Job {
+        horizon: h,
+        reservoir: first,
+        events: n,
+    };
     let mut b = [0i32; 256];
     load(table, n, &mut b);
     let mut wide = [0i32; 256];
     widen(&b, k, &mut wide);
-    let v = judge_slips(&mut b, &wide, list, lags, k);
+    let v = judge_slips(&mut b, &wide, list, cages, table, lags, k);
     let whole = accepts(v);
     leave(&b, n, table, whole);
     v
 }
 
-// The whole call of the job that k holds.
-fn read_list(k: Job, table: &mut [i32], lags: &[i32], list: &[i32]) -> Judgement
-    requires { ⌜ k .events ≡ length (now table) / 4 ⌝ }
-    ensures { λ v. ⌜ Judges (check (call-of k (now (lags .entry)) (now (table .entry))) (now (list .entry))) (now (table .exit)) v ⌝ }
+// The whole call.
+fn read_list(h: Time, cages: &[i32], table: &mut [i32], lags: &[i32], list: &[i32]) -> Judgement
+    ensures { λ v. ⌜ Judges (check (call (h .0) (now (cages .entry)) (now (table .entry)) (now (lags .entry))) (now (list .entry))) (now (table .exit)) v ⌝ }
 {
-    let asked = questions(k, table, lags, list.len());
+    let asked = questions(h, cages, table, lags, list.len());
     match asked {
         Check::Refuse(r) => Judgement::Refused(r),
         Check::Pass => {
@@ -182,26 +189,16 @@ fn read_list(k: Job, table: &mut [i32], lags: &[i32], list: &[i32]) -> Judgement
                     place: 0,
                 });
             }
-            judge(k, table, lags, list)
+            judge(h, cages, table, lags, list)
         }
     }
 }
 
 // The slip reader: whatever words the list holds, it is accepted, the windows narrowed, or refused by number and place, no word changed.
 // It rules out a reader that accepts every list (accepts_every_list) and one that leaves a narrowed window behind (narrowed_window_left).
-pub fn check(
-    h: i32,
-    low: i32,
-    high: i32,
-    q: i32,
-    cover: i32,
-    table: &mut [i32],
-    lags: &[i32],
-    list: &[i32],
-) -> Judgement
-    ensures answer { λ v. ⌜ reply-of v ≡ check (job h low high q cover (now (table .entry)) (now (lags .entry))) (now (list .entry)) .reply ⌝ }
-    ensures windows { λ v. ⌜ now (table .exit) ≡ check (job h low high q cover (now (table .entry)) (now (lags .entry))) (now (list .entry)) .table ⌝ }
+pub fn check(h: i32, cages: &[i32], table: &mut [i32], lags: &[i32], list: &[i32]) -> Judgement
+    ensures answer { λ v. ⌜ reply-of v ≡ check (call h (now (cages .entry)) (now (table .entry)) (now (lags .entry))) (now (list .entry)) .reply ⌝ }
+    ensures windows { λ v. ⌜ now (table .exit) ≡ check (call h (now (cages .entry)) (now (table .entry)) (now (lags .entry))) (now (list .entry)) .table ⌝ }
 {
-    let k = job_of(h, low, high, q, cover, table.len() / 4);
-    read_list(k, table, lags, list)
+    read_list(Time(h), cages, table, lags, list)
 }

@@ -16,23 +16,24 @@ ghost use mathlib.Core.Path.{_≡_};
 ghost use mathlib.Core.Bool.{false};
 ghost use mathlib.Core.List.{List};
 ghost use Prim.Native.Nat.{_≤_};
-ghost use Rattle.model.specs.Job.{widest, Job as Call};
+ghost use lib.IntN.{ℤ};
+ghost use Rattle.model.specs.Job.{widest};
 ghost use Rattle.model.specs.Slips.{Premise};
 ghost use Rattle.model.specs.Reader.{is-conflict, applied, read-from};
 ghost use Rattle.tables.specs.Board.{board, table-of, Whole};
-ghost use Rattle.tables.specs.Job.{Serves};
 ghost use Rattle.slips.specs.Slip.{headed};
-ghost use Rattle.judging.specs.Ready.{Ready};
-ghost use Rattle.checker.specs.Turns.{Applies, Stepped, board-call, Called, Ends};
+ghost use Rattle.judging.specs.Ready.{call-of, Ready};
+ghost use Rattle.checker.specs.Turns.{Applies, Stepped, Called, Ends};
 
 // The slip's narrowing made. Is it a conflict, which makes none?
 fn apply(b: &mut [i32; 256], n: usize, s: Slip) -> bool
     requires { ⌜ Applies n s × Whole (now b) ⌝ }
     ensures { λ c. ⌜ (
+        (sent : List ℤ) →
         (fs : List Premise) →
         (c ≡ is-conflict (headed s fs))
         × Whole (now (b .exit))
-        × (table-of n (now (b .exit)) ≡ applied (table-of n (now (b .entry))) (headed s fs))
+        × (table-of n sent (now (b .exit)) ≡ applied (table-of n sent (now (b .entry))) (headed s fs))
         ) ⌝ }
 {
     if word_is(s.kind, 0) {
@@ -47,24 +48,25 @@ fn take_slip(
     b: &mut [i32; 256],
     wide: &[i32; 256],
     list: &[i32],
+    cages: &[i32],
+    table: &[i32],
     lags: &[i32],
     k: Job,
     stop: usize,
     p: usize,
     left: usize,
 ) -> Step
-    requires { do ⌜ (Ready k (now lags) (now wide) (now b)) × (Whole (now b)) × (p ≤ stop) × (stop ≤ (← ⟦list.len()⟧)) ⌝ }
-    ensures { λ r. ⌜ (
-        (j : Call) →
-        Serves k (now (lags .entry)) (board (now (b .entry))) j →
-        Stepped (k .events) j (board (now (wide .entry))) (now (list .entry)) stop p left (now (b .entry)) (now (b .exit)) r
-        ) ⌝ }
+    requires { do ⌜ (Ready k (now cages) (now table) (now lags) (now wide) (now b)) × (Whole (now b)) × (p ≤ stop) × (stop ≤ (← ⟦list.len()⟧)) ⌝ }
+    ensures { λ r. ⌜
+        Stepped (k .events) (call-of k (now (cages .entry)) (now (table .entry)) (now (lags .entry)))
+        (board (now (wide .entry))) (now (list .entry)) stop p left (now (b .entry)) (now (b .exit)) r
+        ⌝ }
 {
     let read = read_slip(list, stop, p);
     let SlipRead::Whole(slip, next) = read else {
         return Step::No(13);
     };
-    let number = slip_questions(b, wide, list, lags, k, slip, left);
+    let number = slip_questions(b, wide, list, cages, table, lags, k, slip, left);
     if number != 0 {
         return Step::No(number);
     }
@@ -77,16 +79,19 @@ pub fn read_slips(
     b: &mut [i32; 256],
     wide: &[i32; 256],
     list: &[i32],
+    cages: &[i32],
+    table: &[i32],
     lags: &[i32],
     k: Job,
     stop: usize,
     count: usize,
 ) -> SlipsRead
-    requires { do ⌜ (Called k (now lags) (now wide) (now b)) × (stop ≤ (← ⟦list.len()⟧)) ⌝ }
+    requires { do ⌜ (Called k (now cages) (now table) (now lags) (now wide) (now b)) × (stop ≤ (← ⟦list.len()⟧)) ⌝ }
     ensures { λ r. ⌜
-        Ends (k .events)
-        (read-from (board-call k (now (lags .entry)) (now (b .entry))) (widest (board-call k (now (lags .entry)) (now (b .entry))))
-        (now (list .entry)) stop count 0 0 0 false (table-of (k .events) (now (b .entry))))
+        Ends (k .events) (now (table .entry))
+        (read-from (call-of k (now (cages .entry)) (now (table .entry)) (now (lags .entry)))
+        (widest (call-of k (now (cages .entry)) (now (table .entry)) (now (lags .entry))))
+        (now (list .entry)) stop count 0 0 0 false (now (table .entry)))
         (now (b .exit)) stop r
         ⌝ }
 {
@@ -95,7 +100,7 @@ pub fn read_slips(
     let mut last: usize = 0;
     let mut conflict = false;
     while i < count {
-        let step = take_slip(b, wide, list, lags, k, stop, p, count - i - 1);
+        let step = take_slip(b, wide, list, cages, table, lags, k, stop, p, count - i - 1);
         match step {
             Step::No(number) => {
                 return SlipsRead::Refused(Refusal {

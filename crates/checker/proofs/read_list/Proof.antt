@@ -1,8 +1,7 @@
 -- `checker::read_list` is refused by its questions, by the trailer, or judged. Assumes nothing.
-use mathlib.Core.Path.{refl, sym, _∙_}
+use mathlib.Core.Path.{sym, _∙_}
 use borrow.Author.Tests.{not-false}
-use Rattle.tables.specs.Job.{Holds}
-use Rattle.judging.specs.Ready.{call-of}
+use Rattle.tables.specs.Job.{call}
 use Rattle.checker.proofs.Judging.{check-refused, passes, room-there, check-unmarked, check-judged}
 use borrow.Author.Needs.{needs}
 use Rattle.checker.proofs.read_list.Statement.{statement}
@@ -20,10 +19,7 @@ enum-told c = search needs
 is-marked-requires : tie.Need-is-marked-requires
 is-marked-requires c κs =
     let a = c .before .before .before .before .args in
-    let j = call-of (a .k) (a .lags .now) (a .table .now) in
-    let h : Holds (a .k) (a .lags .now) j = record { horizon-is = refl; reservoir-is = refl; events-are = sym (c .before .before .before .before .pre); lags-are = refl } in
-    let e = c .before .before .questions .ensures j h refl in
-    room-there j (a .list .now) e (c .enum-told .given .1)
+    room-there (call (a .h .0) (a .cages .now) (a .table .now) (a .lags .now)) (a .list .now) (c .before .before .questions .ensures) (c .enum-told .given .1)
 
 same-length : tie.Need-same-length
 same-length c = search needs
@@ -31,18 +27,15 @@ same-length c = search needs
 returns : tie.Need-returns
 returns c =
     let a = c .before .before .before .before .before .before .args in
-    let j = call-of (a .k) (a .lags .now) (a .table .now) in
-    let h : Holds (a .k) (a .lags .now) j = record { horizon-is = refl; reservoir-is = refl; events-are = sym (c .before .before .before .before .before .before .pre); lags-are = refl } in
-    let e = c .before .before .before .before .questions .ensures j h refl in
-    check-unmarked j (a .list .now) e (c .before .before .enum-told .given .1) (c .before .is-marked .ensures) (c .if1 .taken)
+    check-unmarked (call (a .h .0) (a .cages .now) (a .table .now) (a .lags .now)) (a .list .now) (c .before .before .before .before .questions .ensures) (c .before .before .enum-told .given .1) (c .before .is-marked .ensures) (c .if1 .taken)
 
 judge-requires : tie.Need-judge-requires
 judge-requires c κs =
     let a = c .before .before .before .before .before .before .before .args in
-    let j = call-of (a .k) (a .lags .now) (a .table .now) in
-    let h : Holds (a .k) (a .lags .now) j = record { horizon-is = refl; reservoir-is = refl; events-are = sym (c .before .before .before .before .before .before .before .pre); lags-are = refl } in
-    let e = c .before .before .before .before .before .questions .ensures j h refl in
-    record { events-are = c .before .before .before .before .before .before .before .pre; asked = passes j (a .list .now) e (c .before .before .before .enum-told .given .1); trailer = sym (c .before .before .is-marked .ensures) ∙ not-false _ (c .before .if1 .left) }
+    record {
+      asked = passes (call (a .h .0) (a .cages .now) (a .table .now) (a .lags .now)) (a .list .now) (c .before .before .before .before .before .questions .ensures) (c .before .before .before .enum-told .given .1);
+      trailer = sym (c .before .before .is-marked .ensures) ∙ not-false _ (c .before .if1 .left);
+    }
 
 same-length-2 : tie.Need-same-length-2
 same-length-2 c = search needs
@@ -50,10 +43,7 @@ same-length-2 c = search needs
 returns-2 : tie.Need-returns-2
 returns-2 c =
     let a = c .before .before .before .before .before .args in
-    let j = call-of (a .k) (a .lags .now) (a .table .now) in
-    let h : Holds (a .k) (a .lags .now) j = record { horizon-is = refl; reservoir-is = refl; events-are = sym (c .before .before .before .before .before .pre); lags-are = refl } in
-    let e = c .before .before .before .questions .ensures j h refl in
-    check-refused j (a .list .now) e (c .before .asked .given .0 .0) (c .before .asked .given .1)
+    check-refused (call (a .h .0) (a .cages .now) (a .table .now) (a .lags .now)) (a .list .now) (c .before .before .before .questions .ensures) (c .before .asked .given .0 .0) (c .before .asked .given .1)
 
 same-length-3 : tie.Need-same-length-3
 same-length-3 c = search needs
@@ -61,10 +51,7 @@ same-length-3 c = search needs
 returns-3 : tie.Need-returns-3
 returns-3 c =
     let a = c .before .before .before .before .before .before .before .before .before .args in
-    let j = call-of (a .k) (a .lags .now) (a .table .now) in
-    let h : Holds (a .k) (a .lags .now) j = record { horizon-is = refl; reservoir-is = refl; events-are = sym (c .before .before .before .before .before .before .before .before .before .pre); lags-are = refl } in
-    let e = c .before .before .before .before .before .before .before .questions .ensures j h refl in
-    check-judged j (a .list .now) e (c .before .before .before .before .before .enum-told .given .1) (c .before .before .before .before .is-marked .ensures) (c .before .before .before .if1 .left) (c .before .judge .ensures)
+    check-judged (call (a .h .0) (a .cages .now) (a .table .now) (a .lags .now)) (a .list .now) (c .before .before .before .before .before .before .before .questions .ensures) (c .before .before .before .before .before .enum-told .given .1) (c .before .before .before .before .is-marked .ensures) (c .before .before .before .if1 .left) (c .before .judge .ensures)
 
 pub read-list-spec : {M : Type 1} → statement M
 read-list-spec =

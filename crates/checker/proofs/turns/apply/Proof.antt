@@ -8,7 +8,7 @@ word-is-requires : tie.Need-word-is-requires
 word-is-requires c κs = search needs
 
 returns : tie.Need-returns
-returns c = let a = c .before .before .args in λ fs. none-made (a .n) (a .b .now) (c .before .before .pre .1) (a .s) fs (c .before .word-is .ensures) (c .if1 .taken)
+returns c = let a = c .before .before .args in λ sent fs. none-made (a .n) sent (a .b .now) (c .before .before .pre .1) (a .s) fs (c .before .word-is .ensures) (c .if1 .taken)
 
 own-kind-requires : tie.Need-own-kind-requires
 own-kind-requires c κs = search needs
@@ -23,7 +23,7 @@ returns-2 : tie.Need-returns-2
 returns-2 c =
     let a = c .before .before .before .before .before .before .args in
     let q = c .before .before .before .before .before .before .pre .0 in
-    λ fs. one-made (a .n) (a .b .now) (c .before .before .before .before .before .before .pre .1) (a .s) fs (c .before .before .before .before .before .word-is .ensures) (c .before .index .result) (c .before .before .own-kind .result) (c .before .before .before .before .if1 .left) (c .before .before .own-kind .ensures .1) (c .before .index .ensures) (rw (c .before .index .ensures) (q .event)) (q .few) (c .set-end .ensures)
+    λ sent fs. one-made (a .n) sent (a .b .now) (c .before .before .before .before .before .before .pre .1) (a .s) fs (c .before .before .before .before .before .word-is .ensures) (c .before .index .result) (c .before .before .own-kind .result) (c .before .before .before .before .if1 .left) (c .before .before .own-kind .ensures .1) (c .before .index .ensures) (rw (c .before .index .ensures) (q .event)) (q .few) (c .set-end .ensures)
 
 pub apply-spec : {M : Type 1} → statement M
 apply-spec =

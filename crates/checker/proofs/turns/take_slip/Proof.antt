@@ -4,7 +4,7 @@ use Rattle.tables.specs.Board.{board, table-of}
 use Rattle.model.specs.Reader.{is-conflict, applied}
 use Rattle.slips.specs.Slip.{explanation-of}
 use Rattle.judging.specs.Ready.{call-of}
-use Rattle.judging.proofs.Passing.{serves-of}
+use Rattle.judging.proofs.Seating.{shares}
 use Rattle.checker.proofs.Turning.{stop-cut, stop-no, goes-by, slip-there, placed-of, passes, applies-is}
 use borrow.Author.Needs.{needs}
 use Rattle.checker.proofs.turns.take_slip.Statement.{statement}
@@ -22,7 +22,7 @@ enum-told c = search needs
 returns : tie.Need-returns
 returns c =
     let a = c .before .before .before .args in
-    λ j h. stop-cut j (board (a .wide .now)) (board (a .b .now)) (a .list .now) (a .stop) (a .p) (a .left) (c .before .before .read-slip .result) (c .before .before .read-slip .ensures .0) (c .enum-told .given .1)
+    stop-cut (call-of (a .k) (a .cages .now) (a .table .now) (a .lags .now)) (board (a .wide .now)) (board (a .b .now)) (a .list .now) (a .stop) (a .p) (a .left) (c .before .before .read-slip .result) (c .before .before .read-slip .ensures .0) (c .enum-told .given .1)
 
 slip-questions-requires : tie.Need-slip-questions-requires
 slip-questions-requires c κs =
@@ -32,26 +32,26 @@ slip-questions-requires c κs =
 returns-2 : tie.Need-returns-2
 returns-2 c =
     let a = c .before .before .before .before .before .before .before .args in
-    λ j h. stop-no j (board (a .wide .now)) (board (a .b .now)) (a .list .now) (a .stop) (a .p) (a .left) (c .before .before .before .before .before .before .read-slip .result) (c .before .before .before .before .before .before .read-slip .ensures .0) (c .before .before .before .before .read .given .0 .0) (c .before .before .before .before .read .given .0 .1 .0) (c .before .before .before .before .read .given .1) (c .before .slip-questions .result) (c .if1 .taken) (c .before .slip-questions .ensures j h)
+    stop-no (call-of (a .k) (a .cages .now) (a .table .now) (a .lags .now)) (board (a .wide .now)) (board (a .b .now)) (a .list .now) (a .stop) (a .p) (a .left) (c .before .before .before .before .before .before .read-slip .result) (c .before .before .before .before .before .before .read-slip .ensures .0) (c .before .before .before .before .read .given .0 .0) (c .before .before .before .before .read .given .0 .1 .0) (c .before .before .before .before .read .given .1) (c .before .slip-questions .result) (c .if1 .taken) (c .before .slip-questions .ensures)
 
 apply-requires : tie.Need-apply-requires
 apply-requires c κs =
-    let a = c .before .before .before .before .before .before .before .before .args in
-    let k = a .k in
-    let j = call-of k (a .lags .now) (table-of (k .events) (a .b .now)) in
-    let h = serves-of (a .lags .now) (a .b .now) in
-    (applies-is (h .holds) (c .before .before .before .before .before .before .before .before .pre .0 .fit) (board (a .wide .now)) (board (a .b .now)) (a .list .now) (c .before .before .before .before .before .read .given .0 .0) (a .left) (placed-of (a .list .now) (a .stop) (c .before .before .before .before .before .before .before .read-slip .result) (c .before .before .before .before .before .read .given .0 .0) (c .before .before .before .before .before .read .given .0 .1 .0) (c .before .before .before .before .before .before .before .read-slip .ensures .1) (c .before .before .before .before .before .read .given .1) .0) (passes (c .before .if1 .left) (c .before .before .slip-questions .ensures j h)), c .before .before .before .before .before .before .before .before .pre .1)
+    let s = c .before .before .before .before .before .before .before .before in
+    let a = s .args in
+    let p = s .pre .0 in
+    (applies-is (shares (a .k) (a .cages .now) (a .table .now) (a .lags .now) (p .seated)) (p .range .few) (board (a .wide .now)) (board (a .b .now)) (a .list .now) (c .before .before .before .before .before .read .given .0 .0) (a .left) (placed-of (a .list .now) (a .stop) (c .before .before .before .before .before .before .before .read-slip .result) (c .before .before .before .before .before .read .given .0 .0) (c .before .before .before .before .before .read .given .0 .1 .0) (c .before .before .before .before .before .before .before .read-slip .ensures .1) (c .before .before .before .before .before .read .given .1) .0) (passes (c .before .if1 .left) (c .before .before .slip-questions .ensures)), s .pre .1)
 
 returns-3 : tie.Need-returns-3
 returns-3 c =
     let a = c .before .before .before .before .before .before .before .before .before .args in
     let x = explanation-of (a .list .now) (c .before .before .before .before .before .before .read .given .0 .0) in
-    let e = c .apply .ensures (x .premises) in
-    λ j h. let t = slip-there j (board (a .wide .now)) (board (a .b .now)) (a .list .now) (a .stop) (a .p) (a .left) (c .before .before .before .before .before .before .before .before .read-slip .result) (c .before .before .before .before .before .before .before .before .read-slip .ensures .0) (c .before .before .before .before .before .before .read .given .0 .0) (c .before .before .before .before .before .before .read .given .0 .1 .0) (c .before .before .before .before .before .before .read .given .1) in (
-      goes-by j (board (a .wide .now)) (board (a .b .now)) (a .list .now) (a .stop) (a .p) (a .left) (c .before .before .before .before .before .before .before .before .read-slip .result) (c .before .before .before .before .before .before .before .before .read-slip .ensures .0) (c .before .before .before .before .before .before .read .given .0 .0) (c .before .before .before .before .before .before .read .given .0 .1 .0) (c .before .before .before .before .before .before .read .given .1) (c .before .before .before .slip-questions .result) (c .before .before .if1 .left) (c .before .before .before .slip-questions .ensures j h),
+    let e = c .apply .ensures (a .table .now) (x .premises) in
+    let j = call-of (a .k) (a .cages .now) (a .table .now) (a .lags .now) in
+    let t = slip-there j (board (a .wide .now)) (board (a .b .now)) (a .list .now) (a .stop) (a .p) (a .left) (c .before .before .before .before .before .before .before .before .read-slip .result) (c .before .before .before .before .before .before .before .before .read-slip .ensures .0) (c .before .before .before .before .before .before .read .given .0 .0) (c .before .before .before .before .before .before .read .given .0 .1 .0) (c .before .before .before .before .before .before .read .given .1) in (
+      goes-by j (board (a .wide .now)) (board (a .b .now)) (a .list .now) (a .stop) (a .p) (a .left) (c .before .before .before .before .before .before .before .before .read-slip .result) (c .before .before .before .before .before .before .before .before .read-slip .ensures .0) (c .before .before .before .before .before .before .read .given .0 .0) (c .before .before .before .before .before .before .read .given .0 .1 .0) (c .before .before .before .before .before .before .read .given .1) (c .before .before .before .slip-questions .result) (c .before .before .if1 .left) (c .before .before .before .slip-questions .ensures),
       t .2,
       e .0 ∙ ap is-conflict (t .1),
-      e .2 ∙ ap (applied (table-of (a .k .events) (a .b .now))) (t .1),
+      e .2 ∙ ap (applied (table-of (a .k .events) (a .table .now) (a .b .now))) (t .1),
       e .1,
       placed-of (a .list .now) (a .stop) (c .before .before .before .before .before .before .before .before .read-slip .result) (c .before .before .before .before .before .before .read .given .0 .0) (c .before .before .before .before .before .before .read .given .0 .1 .0) (c .before .before .before .before .before .before .before .before .read-slip .ensures .1) (c .before .before .before .before .before .before .read .given .1) .1,
     )
