@@ -15,10 +15,9 @@ use Rattle.model.specs.Agenda.{agenda}
 use Rattle.model.specs.Rounds as model
 use Rattle.model.specs.Rounds.{State, Run, running, ended, settled, round, run, start}
 use Rattle.tables.specs.Board.{board, table-of}
-use Rattle.tables.specs.Job.{Kinds, Serves}
-use Rattle.tables.specs.declared.Job.{Job}
-use Rattle.tables.proofs.Holding.{serves-alike}
-use Rattle.rounds.specs.State.{status-of, still, state-of, Held, Grown, Made}
+use Rattle.tables.specs.Job.{Kinds}
+use Rattle.rounds.specs.State.{status-of, still, state-of, Held, Grown}
+use Rattle.turns.specs.Turns.{Done}
 use Rattle.propagator.specs.Runs.{fresh, verdict-of, Tested, Ran}
 use Rattle.rounds.proofs.Moves.{grown-none, grown-more}
 use Rattle.rounds.proofs.Trying.{still-running}
@@ -57,31 +56,31 @@ module _ (room : ℕ) (j : Call) (fuel rounds : ℕ) (s : State) {next : State} 
 -- ---- the code's
 
 -- After some rounds, each of which wrote a slip: what is left of the run.
-pub record Rolling (k : Job) (ws b₀ buffer₀ b buffer : List ℤ) (p : Progress) (rounds : ℕ) : Type 0 where
-  pub is : (j : Call) → Serves k ws (board b₀) j → run (length buffer₀) j (length buffer₀ - rounds) rounds (state-of (k .events) b buffer p) ≡ run (length buffer₀) j (length buffer₀) 0 (start (table-of (k .events) b₀))
-  pub kinds : Kinds (k .events) (board b) (board b₀)
-  pub grown : Grown (k .events) buffer₀ fresh b buffer p
+pub record Rolling (j : Call) (n : ℕ) (b₀ buffer₀ b buffer : List ℤ) (p : Progress) (rounds : ℕ) : Type 0 where
+  pub is : run (length buffer₀) j (length buffer₀ - rounds) rounds (state-of n (j .window-table) b buffer p) ≡ run (length buffer₀) j (length buffer₀) 0 (start (table-of n (j .window-table) b₀))
+  pub kinds : Kinds n (board b) (board b₀)
+  pub grown : Grown n buffer₀ fresh b buffer p
   pub begun : rounds ≤ p .slips
 
-pub rolling-start : (k : Job) (ws : List ℤ) {b buffer : List ℤ} {p : Progress} → Held (k .events) b buffer fresh → p ≡ fresh → Rolling k ws b buffer b buffer p 0
-rolling-start k ws h e = rw e (record { is = λ j q. rw sub-zero; kinds = λ y l. refl; grown = grown-none h; begun = omega arith })
+pub rolling-start : (j : Call) {n : ℕ} {b buffer : List ℤ} {p : Progress} → Held n b buffer fresh → p ≡ fresh → Rolling j n b buffer b buffer p 0
+rolling-start j h e = rw e (record { is = rw sub-zero; kinds = λ y l. refl; grown = grown-none h; begun = omega arith })
 
-module _ {k : Job} {ws b₀ buffer₀ b buffer : List ℤ} {p : Progress} {rounds : ℕ} {b′ buffer′ : List ℤ} {q : Progress}
-    (l : Rolling k ws b₀ buffer₀ b buffer p rounds) (m : Made k ws agenda b buffer p b′ buffer′ q) where
-  next-is : (j : Call) → Serves k ws (board b₀) j → state-of (k .events) b′ buffer′ q ≡ round (length buffer₀) j (state-of (k .events) b buffer p)
-  next-is j o = m .is j (serves-alike o (l .kinds)) ∙ rw (l .grown .same)
+module _ {j : Call} {n : ℕ} {b₀ buffer₀ b buffer : List ℤ} {p : Progress} {rounds : ℕ} {b′ buffer′ : List ℤ} {q : Progress}
+    (l : Rolling j n b₀ buffer₀ b buffer p rounds) (m : Done j n (agenda j) b buffer p b′ buffer′ q) where
+  next-is : state-of n (j .window-table) b′ buffer′ q ≡ round (length buffer₀) j (state-of n (j .window-table) b buffer p)
+  next-is = m .is ∙ rw (l .grown .same)
 
   fuel-left : length buffer₀ - rounds ≡ suc (length buffer₀ - (rounds + 1))
   fuel-left = omega (arith, l .begun, l .grown .held .counted, l .grown .held .trailer-fits, l .grown .same)
 
-  whole-run : (j : Call) → Serves k ws (board b₀) j → {r : Run} → r ≡ run (length buffer₀) j (suc (length buffer₀ - (rounds + 1))) rounds (state-of (k .events) b buffer p) → r ≡ run (length buffer₀) j (length buffer₀) 0 (start (table-of (k .events) b₀))
-  whole-run j o h = h ∙ (rw fuel-left at (l .is j o))
+  whole-run : {r : Run} → r ≡ run (length buffer₀) j (suc (length buffer₀ - (rounds + 1))) rounds (state-of n (j .window-table) b buffer p) → r ≡ run (length buffer₀) j (length buffer₀) 0 (start (table-of n (j .window-table) b₀))
+  whole-run h = h ∙ (rw fuel-left at (l .is))
 
-  pub rolling-ends : {t : Bool} {v : Verdict} → t ≡ still (status-of (q .status)) → not t ≡ true → Tested q v → Ran k ws b₀ buffer₀ b′ buffer′ (record { verdict = v; rounds = rounds + 1; progress = q })
+  pub rolling-ends : {t : Bool} {v : Verdict} → t ≡ still (status-of (q .status)) → not t ≡ true → Tested q v → Ran j n b₀ buffer₀ b′ buffer′ (record { verdict = v; rounds = rounds + 1; progress = q })
   rolling-ends {t} h f v =
       let off = sym h ∙ not-true t f in
       record {
-        is = λ j o. whole-run j o (run-ends (length buffer₀) j (length buffer₀ - (rounds + 1)) rounds (state-of (k .events) b buffer p) (next-is j o) (v .is off));
+        is = whole-run (run-ends (length buffer₀) j (length buffer₀ - (rounds + 1)) rounds (state-of n (j .window-table) b buffer p) next-is (v .is off));
         grown = grown-more (l .grown) (m .grown);
       }
 
@@ -89,17 +88,17 @@ module _ {k : Job} {ws b₀ buffer₀ b buffer : List ℤ} {p : Progress} {round
     on : status-of (q .status) ≡ running
     on = still-running (status-of (q .status)) (sym h ∙ not-false t f)
 
-    pub rolling-settles : q .slips ≡ p .slips → Ran k ws b₀ buffer₀ b′ buffer′ (record { verdict = Settled; rounds = rounds + 1; progress = q })
+    pub rolling-settles : q .slips ≡ p .slips → Ran j n b₀ buffer₀ b′ buffer′ (record { verdict = Settled; rounds = rounds + 1; progress = q })
     rolling-settles e =
         record {
-          is = λ j o. whole-run j o (run-settles (length buffer₀) j (length buffer₀ - (rounds + 1)) rounds (state-of (k .events) b buffer p) (next-is j o) on e);
+          is = whole-run (run-settles (length buffer₀) j (length buffer₀ - (rounds + 1)) rounds (state-of n (j .window-table) b buffer p) next-is on e);
           grown = grown-more (l .grown) (m .grown);
         }
 
-    pub rolling-on : (q .slips ≡ p .slips → ⊥) → Rolling k ws b₀ buffer₀ b′ buffer′ q (rounds + 1)
+    pub rolling-on : (q .slips ≡ p .slips → ⊥) → Rolling j n b₀ buffer₀ b′ buffer′ q (rounds + 1)
     rolling-on e =
         record {
-          is = λ j o. whole-run j o (run-goes (length buffer₀) j (length buffer₀ - (rounds + 1)) rounds (state-of (k .events) b buffer p) (next-is j o) on e);
+          is = whole-run (run-goes (length buffer₀) j (length buffer₀ - (rounds + 1)) rounds (state-of n (j .window-table) b buffer p) next-is on e);
           kinds = λ y i. m .kinds y i ∙ l .kinds y i;
           grown = grown-more (l .grown) (m .grown);
           begun = omega (arith, l .begun, m .grown .more);

@@ -1,9 +1,7 @@
 -- The planner's answer read as document 01's reply.
 use mathlib.Core.Path.{_≡_}
 use mathlib.Core.List.{List}
-use Prim.Native.Nat.{ℕ, _<_}
 use lib.IntN.{ℤ}
-use Rattle.model.specs.Job.{h-min, h-max, Windows, produces}
 use Rattle.model.specs.Rounds.{settled, conflict, stopped}
 use Rattle.model.specs.Planner.{Reply, refused, done, Outcome}
 use Rattle.propagator.specs.declared.Answer.{Answer}
@@ -15,10 +13,6 @@ reply-of (Settled c) = done settled (c .slips) (c .rounds) (c .length)
 reply-of (Conflict c) = done conflict (c .slips) (c .rounds) (c .length)
 reply-of (Stopped c) = done stopped (c .slips) (c .rounds) (c .length)
 reply-of (Refused r) = refused (r .number) (r .place)
-
--- The amounts of each of n events are a delivery's at both ends or at none.
-abbrev pub OneKind : ℕ → Windows → Type 0
-OneKind n W = (y : ℕ) → y < n → produces (W y h-min) ≡ produces (W y h-max)
 
 -- An answer and both tables at exit are what a call leaves.
 pub record Outcomes (o : Outcome) (table buffer : List ℤ) (r : Answer) : Type 0 where

@@ -8,9 +8,7 @@ use lib.ListN.{length}
 use Rattle.model.specs.Job.{Job as Call}
 use Rattle.model.specs.Rounds as model
 use Rattle.model.specs.Rounds.{ended, settled, conflict, stopped, start}
-use Rattle.tables.specs.Board.{board, table-of}
-use Rattle.tables.specs.Job.{Serves}
-use Rattle.tables.specs.declared.Job.{Job}
+use Rattle.tables.specs.Board.{table-of}
 use Rattle.rounds.specs.State.{status-of, still, state-of, Grown}
 use Rattle.rounds.specs.declared.Progress.{Progress}
 use Rattle.rounds.specs.declared.Status.the-variants.{Running}
@@ -31,11 +29,11 @@ verdict-of Stopped = stopped
 pub record Tested (p : Progress) (v : Verdict) : Type 0 where
   pub is : still (status-of (p .status)) ≡ false → status-of (p .status) ≡ ended (verdict-of v)
 
-abbrev pub run-of : ℕ → List ℤ → List ℤ → Ended → model.Run
-run-of n b buffer q =
-    record { verdict = verdict-of (q .verdict); rounds = q .rounds; state = state-of n b buffer (q .progress) }
+abbrev pub run-of : ℕ → List ℤ → List ℤ → List ℤ → Ended → model.Run
+run-of n sent b buffer q =
+    record { verdict = verdict-of (q .verdict); rounds = q .rounds; state = state-of n sent b buffer (q .progress) }
 
--- The run from the window table on a board, of every call that the job at hand is of and that the board serves.
-pub record Ran (k : Job) (ws b buffer b′ buffer′ : List ℤ) (q : Ended) : Type 0 where
-  pub is : (j : Call) → Serves k ws (board b) j → run-of (k .events) b′ buffer′ q ≡ model.run (length buffer) j (length buffer) 0 (start (table-of (k .events) b))
-  pub grown : Grown (k .events) buffer fresh b′ buffer′ (q .progress)
+-- The run of a job of n events from the window table on a board.
+pub record Ran (j : Call) (n : ℕ) (b buffer b′ buffer′ : List ℤ) (q : Ended) : Type 0 where
+  pub is : run-of n (j .window-table) b′ buffer′ q ≡ model.run (length buffer) j (length buffer) 0 (start (table-of n (j .window-table) b))
+  pub grown : Grown n buffer fresh b′ buffer′ (q .progress)

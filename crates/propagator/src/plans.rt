@@ -8,20 +8,16 @@ use questions::Check;
 use questions::Refusal;
 use questions::asked::questions;
 use slips::appending::append_trailer;
-use tables::Job;
-use tables::job_of;
+use tables::Time;
 use tables::load;
 use tables::unload;
 ghost use mathlib.Core.Path.{_≡_};
-ghost use Prim.Native.Nat.{_*_, _≤_};
 ghost use lib.ListN.{length};
-ghost use Rattle.model.specs.Job.{windows, job, Job as Call};
-ghost use Rattle.model.specs.Standing.{Ranged};
-ghost use Rattle.model.specs.Rounds.{run, start};
-ghost use Rattle.model.specs.Planner.{done, planned, plan};
-ghost use Rattle.tables.specs.Job.{Holds, Fit};
+ghost use Rattle.model.specs.Questions.{pass, questions};
+ghost use Rattle.model.specs.Planner.{done, plan};
+ghost use Rattle.tables.specs.Job.{call};
 ghost use Rattle.propagator.specs.Runs.{verdict-of};
-ghost use Rattle.propagator.specs.Plans.{reply-of, OneKind, Outcomes};
+ghost use Rattle.propagator.specs.Plans.{reply-of, Outcomes};
 ghost use Rattle.propagator.specs.declared.Answer.the-variants.{Refused};
 
 // The answer of a run that has ended, with the list's length.
@@ -42,31 +38,19 @@ pub fn answer(e: Ended, length: usize) -> Answer
     }
 }
 
-// The run of a job that passed its questions, with both lent tables written.
-pub fn planned(k: Job, table: &mut [i32], lags: &[i32], buffer: &mut [i32]) -> Answer
-    requires { ⌜
-        Fit k (now lags)
-        × (length (now table) ≡ 4 * k .events)
-        × Ranged (k .events) (windows (now table))
-        × OneKind (k .events) (windows (now table))
-        × (3 ≤ length (now buffer))
-        × (length (now buffer) ≤ 1000000)
-        ⌝ }
+// The run of a call whose questions passed, with both lent tables written.
+fn planned(h: Time, cages: &[i32], table: &mut [i32], lags: &[i32], buffer: &mut [i32]) -> Answer
+    requires { ⌜ questions (call (h .0) (now cages) (now table) (now lags)) (length (now buffer)) ≡ pass ⌝ }
     ensures { λ r. ⌜
-        (
-        (j : Call) →
-        Holds k (now (lags .entry)) j →
-        j .window-table ≡ now (table .entry) →
         Outcomes
-        (planned (run (length (now (buffer .entry))) j (length (now (buffer .entry))) 0 (start (now (table .entry)))) (now (buffer .entry)))
+        (plan (call (h .0) (now (cages .entry)) (now (table .entry)) (now (lags .entry))) (now (buffer .entry)))
         (now (table .exit)) (now (buffer .exit)) r
-        )
         ⌝ }
 {
-    let n = k.events;
+    let n = table.len() / 5;
     let mut b: [i32; 256] = [0; 256];
     load(table, n, &mut b);
-    let e = run(&mut b, lags, k, buffer);
+    let e = run(&mut b, h, n, cages, table, lags, buffer);
     let p = e.progress;
     let used = p.used;
     let length = append_trailer(buffer, used, p.slips, p.last);
@@ -83,24 +67,15 @@ fn refused(r: Refusal, table: &mut [i32]) -> Answer
 
 // The planner: the reply, and every word of the window table and the slip buffer, as document 01 says. A refusal changes no lent word.
 // It rules out a planner that writes no slip (no_slip) and one that answers conflict always (conflict_always).
-pub fn plan(
-    h: i32,
-    low: i32,
-    high: i32,
-    q: i32,
-    cover: i32,
-    table: &mut [i32],
-    lags: &[i32],
-    buffer: &mut [i32],
-) -> Answer
-    ensures answer { λ r. ⌜ reply-of r ≡ plan (job h low high q cover (now (table .entry)) (now (lags .entry))) (now (buffer .entry)) .reply ⌝ }
-    ensures windows { λ r. ⌜ now (table .exit) ≡ plan (job h low high q cover (now (table .entry)) (now (lags .entry))) (now (buffer .entry)) .table ⌝ }
-    ensures slips { λ r. ⌜ now (buffer .exit) ≡ plan (job h low high q cover (now (table .entry)) (now (lags .entry))) (now (buffer .entry)) .buffer ⌝ }
+pub fn plan(h: i32, cages: &[i32], table: &mut [i32], lags: &[i32], buffer: &mut [i32]) -> Answer
+    ensures answer { λ r. ⌜ reply-of r ≡ plan (call h (now (cages .entry)) (now (table .entry)) (now (lags .entry))) (now (buffer .entry)) .reply ⌝ }
+    ensures windows { λ r. ⌜ now (table .exit) ≡ plan (call h (now (cages .entry)) (now (table .entry)) (now (lags .entry))) (now (buffer .entry)) .table ⌝ }
+    ensures slips { λ r. ⌜ now (buffer .exit) ≡ plan (call h (now (cages .entry)) (now (table .entry)) (now (lags .entry))) (now (buffer .entry)) .buffer ⌝ }
 {
-    let k = job_of(h, low, high, q, cover, table.len() / 4);
-    let check = questions(k, table, lags, buffer.len());
+    let horizon = Time(h);
+    let check = questions(horizon, cages, table, lags, buffer.len());
     match check {
         Check::Refuse(r) => refused(r, table),
-        Check::Pass => planned(k, table, lags, buffer),
+        Check::Pass => planned(horizon, cages, table, lags, buffer),
     }
 }

@@ -4,11 +4,13 @@ use crate::Verdict;
 use rounds::Progress;
 use rounds::Status;
 use rounds::attempts::is_running;
-use rounds::sweeps::round;
-use tables::Job;
+use tables::Time;
+use turns::turn;
 ghost use mathlib.Core.Path.{_≡_};
-ghost use Rattle.tables.specs.Job.{Fit};
+ghost use Rattle.tables.specs.Board.{board};
+ghost use Rattle.tables.specs.Job.{call};
 ghost use Rattle.rounds.specs.State.{Held};
+ghost use Rattle.turns.specs.Turns.{Works};
 ghost use Rattle.propagator.specs.Runs.{fresh, Tested, Ran};
 
 // No slip yet.
@@ -36,14 +38,25 @@ fn verdict(p: Progress) -> Verdict
 }
 
 // Rounds from the start until one writes no slip, or a conflict or the room ends the call.
-pub fn run(b: &mut [i32; 256], lags: &[i32], k: Job, buffer: &mut [i32]) -> Ended
-    requires { ⌜ Fit k (now lags) × Held (k .events) (now b) (now buffer) fresh ⌝ }
-    ensures { λ q. ⌜ Ran k (now (lags .entry)) (now (b .entry)) (now (buffer .entry)) (now (b .exit)) (now (buffer .exit)) q ⌝ }
+pub fn run(
+    b: &mut [i32; 256],
+    h: Time,
+    n: usize,
+    cages: &[i32],
+    table: &[i32],
+    lags: &[i32],
+    buffer: &mut [i32],
+) -> Ended
+    requires { ⌜ Works (call (h .0) (now cages) (now table) (now lags)) n (board (now b)) × Held n (now b) (now buffer) fresh ⌝ }
+    ensures { λ q. ⌜
+        Ran (call (h .0) (now (cages .entry)) (now (table .entry)) (now (lags .entry))) n
+        (now (b .entry)) (now (buffer .entry)) (now (b .exit)) (now (buffer .exit)) q
+        ⌝ }
 {
     let mut p = start();
     let mut rounds: usize = 0;
     loop {
-        let q = round(b, lags, k, buffer, p);
+        let q = turn(b, h, n, cages, table, lags, buffer, p);
         rounds += 1;
         if !is_running(q) {
             return Ended {

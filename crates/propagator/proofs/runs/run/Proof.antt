@@ -3,24 +3,28 @@ use mathlib.Core.Path.{_∙_}
 use Prim.Native.Nat.{_-_}
 use native.Mathlib.Omega.{arith}
 use lib.ListN.{length}
+use Rattle.tables.specs.Job.{call}
+use Rattle.turns.proofs.Turning.{works-next}
 use Rattle.propagator.proofs.Running.{Rolling, rolling-start, rolling-ends, rolling-settles, rolling-on}
 use Rattle.propagator.proofs.runs.run.Statement.{statement}
 use Rattle.propagator.proofs.runs.run.Tie as tie
 
 abbrev Inv-loop : tie.InvT-loop
-Inv-loop b₀ lags k buffer₀ p₀ rounds₀ b buffer p rounds = Rolling k lags b₀ buffer₀ b buffer p rounds
+Inv-loop b₀ h n cages table lags buffer₀ p₀ rounds₀ b buffer p rounds = Rolling (call (h .0) cages table lags) n b₀ buffer₀ b buffer p rounds
 
 abbrev μ-loop : tie.MeasureT-loop
-μ-loop b₀ lags k buffer₀ p₀ rounds₀ b buffer p rounds = length buffer₀ - p .slips
+μ-loop b₀ h n cages table lags buffer₀ p₀ rounds₀ b buffer p rounds = length buffer₀ - p .slips
 
 start-requires : tie.Need-start-requires Inv-loop μ-loop
 start-requires c κs = tt
 
 loop-holds : tie.Need-loop-holds Inv-loop μ-loop
-loop-holds c = let s = c .before in rolling-start (s .args .k) (s .args .lags .now) (s .pre .1) (c .start .ensures)
+loop-holds c = let s = c .before in rolling-start _ (s .pre .1) (c .start .ensures)
 
-round-requires : tie.Need-round-requires Inv-loop μ-loop
-round-requires c κs = (c .before .before .before .before .pre .0, c .before .before .loop .inv .grown .held)
+turn-requires : tie.Need-turn-requires Inv-loop μ-loop
+turn-requires c κs =
+    let l = c .before .before .loop in
+    (works-next (c .before .before .before .before .pre .0) (l .inv .kinds), l .inv .grown .held)
 
 add-rounds : tie.Need-add-rounds Inv-loop μ-loop
 add-rounds c = omega arith
@@ -32,29 +36,29 @@ verdict-requires : tie.Need-verdict-requires Inv-loop μ-loop
 verdict-requires c κs = tt
 
 same-length : tie.Need-same-length Inv-loop μ-loop
-same-length c = c .before .before .before .before .round .ensures .grown .same ∙ c .before .before .before .before .before .before .before .loop .inv .grown .same
+same-length c = c .before .before .before .before .turn .ensures .grown .same ∙ c .before .before .before .before .before .before .before .loop .inv .grown .same
 
 returns : tie.Need-returns Inv-loop μ-loop
 returns c =
-    rolling-ends (c .before .before .before .before .before .before .before .loop .inv) (c .before .before .before .before .round .ensures)
+    rolling-ends (c .before .before .before .before .before .before .before .loop .inv) (c .before .before .before .before .turn .ensures)
     (c .before .before .is-running .ensures) (c .before .if1 .taken) (c .verdict .ensures)
 
 same-length-2 : tie.Need-same-length-2 Inv-loop μ-loop
-same-length-2 c = c .before .before .before .before .before .before .round .ensures .grown .same ∙ c .before .before .before .before .before .before .before .before .before .loop .inv .grown .same
+same-length-2 c = c .before .before .before .before .before .before .turn .ensures .grown .same ∙ c .before .before .before .before .before .before .before .before .before .loop .inv .grown .same
 
 returns-2 : tie.Need-returns-2 Inv-loop μ-loop
 returns-2 c =
     rolling-settles (c .before .before .before .before .before .before .before .before .before .loop .inv)
-    (c .before .before .before .before .before .before .round .ensures) (c .before .before .before .before .is-running .ensures)
+    (c .before .before .before .before .before .before .turn .ensures) (c .before .before .before .before .is-running .ensures)
     (c .before .before .before .if1 .left) (c .if2 .taken)
 
 loop-less : tie.Need-loop-less Inv-loop μ-loop
-loop-less c = omega (arith, c .before .before .before .before .before .before .round .ensures .grown, c .before .before .before .before .before .before .before .before .before .loop .inv .grown)
+loop-less c = omega (arith, c .before .before .before .before .before .before .turn .ensures .grown, c .before .before .before .before .before .before .before .before .before .loop .inv .grown)
 
 loop-again : tie.Need-loop-again Inv-loop μ-loop
 loop-again c =
     rolling-on (c .before .before .before .before .before .before .before .before .before .loop .inv)
-    (c .before .before .before .before .before .before .round .ensures) (c .before .before .before .before .is-running .ensures)
+    (c .before .before .before .before .before .before .turn .ensures) (c .before .before .before .before .is-running .ensures)
     (c .before .before .before .if1 .left) (c .if2 .left)
 
 pub run-spec : {M : Type 1} → statement M
@@ -65,7 +69,7 @@ run-spec =
     μ-loop
     start-requires
     loop-holds
-    round-requires
+    turn-requires
     add-rounds
     is-running-requires
     verdict-requires
