@@ -11,11 +11,11 @@ use lib.ListN.{length}
 use lib.Signed.{leZ}
 use Rattle.integers.specs.Range.{eqZ}
 use Rattle.integers.proofs.Tests.{true-is, and-out}
-use Rattle.model.specs.Job.{Windows, windows, widest, Reservoir, Job, events}
+use Rattle.model.specs.Job.{Windows, windows, widest, cage-at, cages, Job, events}
 use Rattle.model.specs.Rules.{own-end, bound, effect, is-narrowing}
 use Rattle.model.specs.Slips.{Explanation, slip-length, premise-count, slip-at, rule-of, target-of}
 use Rattle.model.specs.Rounds.{Verdict, settled, conflict, stopped, still-open}
-use Rattle.model.specs.Questions.{Check, pass, refuse, _then_, ask, each, horizon-right, limits-right, stock-right, cover-right, events-whole, times-right, heights-right, lags-whole, lag-events, lag-differs, lag-in-range, room-right, cage-questions, window-questions, lag-questions, own-questions, questions}
+use Rattle.model.specs.Questions.{Check, pass, refuse, _then_, ask, each, horizon-right, cages-whole, limits-right, stock-right, cover-right, events-whole, times-right, heights-right, cage-right, lags-whole, lag-events, lag-differs, lag-in-range, room-right, cage-questions, window-questions, lag-questions, own-questions, questions}
 use Rattle.model.specs.Planner.{refused, done, Outcome, plan}
 use Rattle.model.specs.Reader.{whole, reading, names, all-true, narrowed, is-conflict, gives, slip-questions, applied, Read, read-from, stop-of, counted, marked, ends-right, read-all, accepted, judged, check}
 use Rattle.model.proofs.Questions.{then-out, ask-out, asked}
@@ -48,7 +48,7 @@ each-low q ok i (suc k) h l = go (ok i) (each-low q ok (i + 1) k h (omega arith)
     go true r = r
     go false r = refuses q i h (omega arith)
 
--- ---- questions 1 to 11
+-- ---- questions
 
 -- Questions 14 to 18 of a slip.
 slip-low : (named true-facts given clashing last moved : Bool) → Low (ask 14 named then ask 15 true-facts then ask 16 given then cond clashing (ask 18 last) (ask 17 moved))
@@ -67,20 +67,27 @@ few q m k whole-entries l e =
     let u = leb→le m k (t .1) in
     omega arith
 
--- Questions 1 to 11, part by part.
-cage-low : (h : ℤ) (c : Reservoir) → Low (cage-questions h c)
-cage-low h c =
-    then-low (ask 1 (horizon-right h)) _ (ask-low 1 (horizon-right h) (omega arith)) (λ _. then-low (ask 2 (limits-right c)) _ (ask-low 2 (limits-right c) (omega arith))
-    (λ _. then-low (ask 3 (stock-right c)) _ (ask-low 3 (stock-right c) (omega arith)) (λ _. ask-low 22 (cover-right c) (omega arith))))
-
-window-low : (h : ℤ) (table : List ℤ) → Low (window-questions h table)
-window-low h table =
-    then-low (ask 4 (events-whole table)) _ (ask-low 4 (events-whole table) (omega arith))
-    (λ p. then-low (each 5 (times-right h (windows table)) 0 (length table / 4)) _ (each-low 5 (times-right h (windows table)) 0 (length table / 4) (omega arith) (events p))
-    (λ _. each-low 6 (heights-right (windows table)) 0 (length table / 4) (omega arith) (events p)))
+-- The job's own questions, part by part.
+cage-low : (h : ℤ) (ws : List ℤ) → Low (cage-questions h ws)
+cage-low h ws =
+    then-low (ask 1 (horizon-right h)) _ (ask-low 1 (horizon-right h) (omega arith))
+    (λ _. then-low (ask 29 (cages-whole ws)) _ (ask-low 29 (cages-whole ws) (omega arith))
+    (λ p. then-low (each 2 (λ c. limits-right (cage-at ws c)) 0 (length ws / 4)) _ (each-low 2 (λ c. limits-right (cage-at ws c)) 0 (length ws / 4) (omega arith) (cages p))
+    (λ _. then-low (each 3 (λ c. stock-right (cage-at ws c)) 0 (length ws / 4)) _ (each-low 3 (λ c. stock-right (cage-at ws c)) 0 (length ws / 4) (omega arith) (cages p))
+    (λ _. each-low 22 (λ c. cover-right (cage-at ws c)) 0 (length ws / 4) (omega arith) (cages p)))))
   where
-    events : ask 4 (events-whole table) ≡ pass → 0 + length table / 4 ≤ 1000000
-    events e = let k = few 4 (length table) 256 (eqb (length table % 4) 0) (omega arith) e in omega arith
+    cages : ask 29 (cages-whole ws) ≡ pass → 0 + length ws / 4 ≤ 1000000
+    cages e = let k = few 29 (length ws) 32 (eqb (length ws % 4) 0 && leb 4 (length ws)) (omega arith) e in omega arith
+
+window-low : (h : ℤ) (k : ℕ) (table : List ℤ) → Low (window-questions h k table)
+window-low h k table =
+    then-low (ask 4 (events-whole table)) _ (ask-low 4 (events-whole table) (omega arith))
+    (λ p. then-low (each 5 (times-right h (windows table)) 0 (length table / 5)) _ (each-low 5 (times-right h (windows table)) 0 (length table / 5) (omega arith) (events p))
+    (λ _. then-low (each 6 (heights-right (windows table)) 0 (length table / 5)) _ (each-low 6 (heights-right (windows table)) 0 (length table / 5) (omega arith) (events p))
+    (λ _. each-low 30 (cage-right k table) 0 (length table / 5) (omega arith) (events p))))
+  where
+    events : ask 4 (events-whole table) ≡ pass → 0 + length table / 5 ≤ 1000000
+    events e = let k = few 4 (length table) 320 (eqb (length table % 5) 0) (omega arith) e in omega arith
 
 lag-low : (n : ℕ) (ws : List ℤ) → Low (lag-questions n ws)
 lag-low n ws =
@@ -97,8 +104,8 @@ module _ (j : Job) where
   unfolding questions own-questions
   questions-low room =
       then-low (own-questions j) (ask 11 (room-right room))
-      (then-low (cage-questions (j .horizon) (j .reservoir)) _ (cage-low (j .horizon) (j .reservoir))
-      (λ _. then-low (window-questions (j .horizon) (j .window-table)) _ (window-low (j .horizon) (j .window-table)) (λ _. lag-low (events j) (j .lag-table))))
+      (then-low (cage-questions (j .horizon) (j .cage-table)) _ (cage-low (j .horizon) (j .cage-table))
+      (λ _. then-low (window-questions (j .horizon) (cages j) (j .window-table)) _ (window-low (j .horizon) (cages j) (j .window-table)) (λ _. lag-low (events j) (j .lag-table))))
       (λ _. ask-low 11 (room-right room) (omega arith))
 
   -- ---- the planner

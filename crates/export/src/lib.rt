@@ -9,7 +9,7 @@ use propagator::Counts;
 use propagator::plans::plan;
 ghost use mathlib.Core.Path.{_≡_};
 ghost use lib.IntN.{pos};
-ghost use Rattle.model.specs.Job.{job};
+ghost use Rattle.tables.specs.Job.{call};
 ghost use Rattle.model.specs.Planner.{plan};
 ghost use Rattle.model.specs.Reader.{check};
 ghost use Rattle.propagator.specs.Plans.{reply-of as answer-reply};
@@ -103,21 +103,18 @@ fn tell(n: Numbers, words: &mut [i32]) -> i32
 #[no_mangle]
 pub extern "C" fn orthmuzi_plan(
     h: i32,
-    low: i32,
-    high: i32,
-    q: i32,
-    cover: i32,
+    cages: &[i32],
     table: &mut [i32],
     lags: &[i32],
     buffer: &mut [i32],
     words: &mut [i32],
 ) -> i32
-    ensures number { λ r. ⌜ r ≡ pos (numbers-of (plan (job h low high q cover (now (table .entry)) (now (lags .entry))) (now (buffer .entry)) .reply) .number) ⌝ }
-    ensures answer { λ r. ⌜ now (words .exit) ≡ told (numbers-of (plan (job h low high q cover (now (table .entry)) (now (lags .entry))) (now (buffer .entry)) .reply)) (now (words .entry)) ⌝ }
-    ensures windows { λ r. ⌜ now (table .exit) ≡ plan (job h low high q cover (now (table .entry)) (now (lags .entry))) (now (buffer .entry)) .table ⌝ }
-    ensures slips { λ r. ⌜ now (buffer .exit) ≡ plan (job h low high q cover (now (table .entry)) (now (lags .entry))) (now (buffer .entry)) .buffer ⌝ }
+    ensures number { λ r. ⌜ r ≡ pos (numbers-of (plan (call h (now (cages .entry)) (now (table .entry)) (now (lags .entry))) (now (buffer .entry)) .reply) .number) ⌝ }
+    ensures answer { λ r. ⌜ now (words .exit) ≡ told (numbers-of (plan (call h (now (cages .entry)) (now (table .entry)) (now (lags .entry))) (now (buffer .entry)) .reply)) (now (words .entry)) ⌝ }
+    ensures windows { λ r. ⌜ now (table .exit) ≡ plan (call h (now (cages .entry)) (now (table .entry)) (now (lags .entry))) (now (buffer .entry)) .table ⌝ }
+    ensures slips { λ r. ⌜ now (buffer .exit) ≡ plan (call h (now (cages .entry)) (now (table .entry)) (now (lags .entry))) (now (buffer .entry)) .buffer ⌝ }
 {
-    let a = plan(h, low, high, q, cover, table, lags, buffer);
+    let a = plan(h, cages, table, lags, buffer);
     tell(planned(a), words)
 }
 
@@ -126,19 +123,16 @@ pub extern "C" fn orthmuzi_plan(
 #[no_mangle]
 pub extern "C" fn orthmuzi_read(
     h: i32,
-    low: i32,
-    high: i32,
-    q: i32,
-    cover: i32,
+    cages: &[i32],
     table: &mut [i32],
     lags: &[i32],
     list: &[i32],
     words: &mut [i32],
 ) -> i32
-    ensures number { λ r. ⌜ r ≡ pos (numbers-of (check (job h low high q cover (now (table .entry)) (now (lags .entry))) (now (list .entry)) .reply) .number) ⌝ }
-    ensures answer { λ r. ⌜ now (words .exit) ≡ told (numbers-of (check (job h low high q cover (now (table .entry)) (now (lags .entry))) (now (list .entry)) .reply)) (now (words .entry)) ⌝ }
-    ensures windows { λ r. ⌜ now (table .exit) ≡ check (job h low high q cover (now (table .entry)) (now (lags .entry))) (now (list .entry)) .table ⌝ }
+    ensures number { λ r. ⌜ r ≡ pos (numbers-of (check (call h (now (cages .entry)) (now (table .entry)) (now (lags .entry))) (now (list .entry)) .reply) .number) ⌝ }
+    ensures answer { λ r. ⌜ now (words .exit) ≡ told (numbers-of (check (call h (now (cages .entry)) (now (table .entry)) (now (lags .entry))) (now (list .entry)) .reply)) (now (words .entry)) ⌝ }
+    ensures windows { λ r. ⌜ now (table .exit) ≡ check (call h (now (cages .entry)) (now (table .entry)) (now (lags .entry))) (now (list .entry)) .table ⌝ }
 {
-    let v = check(h, low, high, q, cover, table, lags, list);
+    let v = check(h, cages, table, lags, list);
     tell(judged(v), words)
 }

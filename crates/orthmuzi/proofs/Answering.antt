@@ -9,12 +9,13 @@ use lib.IntN.{ℤ, pos}
 use lib.ListN.{length, getD, take, drop, set}
 use lib.Seq.{take-suc-set, take-suc, take-all}
 use Rattle.model.specs.Planner.{Reply, plan}
-use Rattle.model.specs.Job.{Job, job}
+use Rattle.model.specs.Job.{Job}
 use Rattle.model.specs.Text.{Parsed, parsed, malformed}
 use Rattle.model.specs.Print.{printed}
 use Rattle.model.specs.Program.{slip-room, answered, Told}
 use Rattle.scanner.specs.Scanner.{state, finished}
-use Rattle.scanner.specs.Layout.{at, job-in, Room, Handed}
+use Rattle.tables.specs.Job.{call}
+use Rattle.scanner.specs.Layout.{at, windows-at, lags-at, job-in, Room, Handed}
 use Rattle.scanner.specs.declared.scan.Scan.{Scan}
 use Rattle.scanner.specs.declared.layout.Sizes.{Sizes}
 use Rattle.scanner.specs.declared.layout.Layout.{Layout}
@@ -30,8 +31,8 @@ pub told : {s : Scan} {t : List ℤ} {buffer : List ℕ} {n : ℕ} → Heard s t
 told h p = record { pieces = h .pieces; all = h .all; prints = p .are ∙ ap answered (h .says) }
 
 -- The planner's reply and its windows, printed.
-pub planned-text : (w l : List ℤ) {h low high q cover h′ low′ high′ q′ cover′ : ℤ} {reply : Reply} {u : List ℤ} {buffer : List ℕ} {n : ℕ} → h′ ≡ h → low′ ≡ low → high′ ≡ high → q′ ≡ q → cover′ ≡ cover → reply ≡ plan (job h′ low′ high′ q′ cover′ w l) slip-room .reply → u ≡ plan (job h′ low′ high′ q′ cover′ w l) slip-room .table → Printed buffer n (printed reply u) → Printed buffer n (answered (parsed (job h low high q cover w l)))
-planned-text w l e₁ e₂ e₃ e₄ e₅ f g p = rw (← e₁, ← e₂, ← e₃, ← e₄, ← e₅) (printed-as (rw (f, g)) p)
+pub planned-text : (cs w l : List ℤ) {h h′ : ℤ} {reply : Reply} {u : List ℤ} {buffer : List ℕ} {n : ℕ} → h′ ≡ h → reply ≡ plan (call h′ cs w l) slip-room .reply → u ≡ plan (call h′ cs w l) slip-room .table → Printed buffer n (printed reply u) → Printed buffer n (answered (parsed (call h cs w l)))
+planned-text cs w l e f g p = rw (← e) (printed-as (rw (f, g)) p)
 
 -- ---- what is handed over
 
@@ -49,11 +50,13 @@ module _ {l : Layout} {t : List ℤ} {j : Parsed Job} (handed : Handed l t j) wh
   handed-room e = rw e at (handed .roomy)
 
 -- The job in a table, from its words.
-pub job-at : (t : List ℤ) (s : Sizes) {h low high q cover : ℤ} {w : List ℤ} → h ≡ at t 0 → low ≡ at t 1 → high ≡ at t 2 → q ≡ at t 3 → cover ≡ at t 4 → w ≡ take (7 + 4 * s .events - 7) (drop 7 t) → parsed (job h low high q cover w (take (7 + 4 * s .events + 3 * s .lags - (7 + 4 * s .events)) (drop (7 + 4 * s .events) t))) ≡ parsed (job-in t s)
-job-at t s e₁ e₂ e₃ e₄ e₅ f =
-    let a : 7 + 4 * s .events - 7 ≡ 4 * s .events = omega arith in
-    let b : 7 + 4 * s .events + 3 * s .lags - (7 + 4 * s .events) ≡ 3 * s .lags = omega arith in
-    rw (e₁, e₂, e₃, e₄, e₅, f, a, b)
+pub job-at : (t : List ℤ) (s : Sizes) {h : ℤ} {w : List ℤ} {first lags : ℕ} → h ≡ at t 0 → first ≡ windows-at s → lags ≡ lags-at s → w ≡ take (lags - first) (drop first t) →
+    parsed (call h (take (2 + 4 * s .cages - 2) (drop 2 t)) w (take (lags + 3 * s .lags - lags) (drop lags t))) ≡ parsed (job-in t s)
+job-at t s e f g k =
+    let a : 2 + 4 * s .cages - 2 ≡ 4 * s .cages = omega arith in
+    let b : lags-at s - windows-at s ≡ 5 * s .events = omega arith in
+    let c : lags-at s + 3 * s .lags - lags-at s ≡ 3 * s .lags = omega arith in
+    rw (e, k, f, g, a, b, c)
 
 -- ---- words copied
 

@@ -3,10 +3,10 @@
 ghost use mathlib.Core.Path.{_≡_};
 ghost use Prim.Native.Nat.{_≤_};
 ghost use lib.ListN.{length};
-ghost use Rattle.model.specs.Job.{job};
 ghost use Rattle.model.specs.Text.{parsed};
 ghost use Rattle.model.specs.Print.{printed};
 ghost use Rattle.model.specs.Program.{answered, Told};
+ghost use Rattle.tables.specs.Job.{call};
 ghost use Rattle.propagator.specs.Plans.{reply-of};
 ghost use Rattle.scanner.specs.Scanner.{state, finished};
 ghost use Rattle.scanner.specs.Layout.{job-in, Room};
@@ -25,7 +25,7 @@ use scanner::Taken;
 
 // An answer as text.
 fn report(a: Answer, windows: &[i32], out: &mut [u8]) -> usize
-    requires { ⌜ (length (now windows) ≤ 256) × (8192 ≤ length (now out)) ⌝ }
+    requires { ⌜ (length (now windows) ≤ 320) × (8192 ≤ length (now out)) ⌝ }
     ensures { λ r. ⌜ Printed (now (out .exit)) r (printed (reply-of a) (now (windows .entry))) ⌝ }
 {
     match a {
@@ -48,40 +48,30 @@ fn copy(from: &[i32], to: &mut [i32])
 }
 
 // A job planned in a slip room of 16,000 words, and its answer put into `out`.
-fn planned(
-    h: i32,
-    low: i32,
-    high: i32,
-    q: i32,
-    cover: i32,
-    windows: &mut [i32],
-    lags: &[i32],
-    out: &mut [u8],
-) -> usize
-    requires { ⌜ (length (now windows) ≤ 256) × (8192 ≤ length (now out)) ⌝ }
-    ensures { λ r. ⌜ Printed (now (out .exit)) r (answered (parsed (job h low high q cover (now (windows .entry)) (now (lags .entry))))) ⌝ }
+fn planned(h: i32, cages: &[i32], windows: &mut [i32], lags: &[i32], out: &mut [u8]) -> usize
+    requires { ⌜ (length (now windows) ≤ 320) × (8192 ≤ length (now out)) ⌝ }
+    ensures { λ r. ⌜ Printed (now (out .exit)) r (answered (parsed (call h (now (cages .entry)) (now (windows .entry)) (now (lags .entry))))) ⌝ }
 {
     let mut room = [0i32; 16000];
-    let a = plan(h, low, high, q, cover, windows, lags, &mut room);
+    let a = plan(h, cages, windows, lags, &mut room);
     report(a, windows, out)
 }
 
 // The job of these sizes at the start of the table planned, its windows in `space`.
 fn table_planned(s: Sizes, table: &[i32], space: &mut [i32], out: &mut [u8]) -> usize
-    requires { ⌜ Room s (now table) × (256 ≤ length (now space)) × (8192 ≤ length (now out)) ⌝ }
+    requires { ⌜ Room s (now table) × (320 ≤ length (now space)) × (8192 ≤ length (now out)) ⌝ }
     ensures { λ r. ⌜ Printed (now (out .exit)) r (answered (parsed (job-in (now (table .entry)) s))) ⌝ }
 {
-    let words = 4 * s.events;
-    let lags = 7 + words;
+    let behind = 2 + 4 * s.cages;
+    let first = behind + 2;
+    let words = 5 * s.events;
+    let lags = first + words;
     let end = lags + 3 * s.lags;
     let windows = &mut space[..words];
-    copy(&table[7..lags], windows);
+    copy(&table[first..lags], windows);
     planned(
         table[0],
-        table[1],
-        table[2],
-        table[3],
-        table[4],
+        &table[2..behind],
         windows,
         &table[lags..end],
         out,
@@ -97,7 +87,7 @@ fn answer(s: Scan, table: &mut [i32], out: &mut [u8]) -> usize
     let Layout::Fits(sizes) = layout else {
         return printer::print_refused(out, 20, 0);
     };
-    let mut space = [0i32; 256];
+    let mut space = [0i32; 320];
     table_planned(sizes, table, &mut space, out)
 }
 
@@ -120,7 +110,7 @@ fn read_some(s: Scan, table: &mut [i32]) -> Taken
 
 // Reads to the end of the input. A proved loop has to end, and nothing says that the input does: it counts its turns down from a number that no run uses up.
 fn read_all(table: &mut [i32]) -> Scan
-    requires { ⌜ 1031 ≤ length (now table) ⌝ }
+    requires { ⌜ 1124 ≤ length (now table) ⌝ }
     ensures { λ r. ⌜ Heard r (now (table .exit)) ⌝ }
 {
     let mut scan = scanner::start();

@@ -77,7 +77,7 @@ module _ (j : Job) (buffer : List ℤ) (a : Answer) {table′ buffer′ : List �
     e : plan j buffer .reply ≡ done (l .verdict) (l .slips) (l .rounds) len
     e = sym ea ∙ l .is
 
-    pub few : length (j .window-table) ≤ 256
+    pub few : length (j .window-table) ≤ 320
     few =
         let k = asked j (length buffer) (plan-passed j buffer (l .verdict) (l .slips) (l .rounds) len e) in
         let m = k .sane .few-events in

@@ -26,8 +26,8 @@ written-of (Refused r) = Nothing r
 
 -- The first words of a copy are the table's, where it has room for them.
 pub record Copied (table copy : List ℤ) : Type 0 where
-  pub whole : length copy ≡ 256
-  pub first : length table ≤ 256 → take (length table) copy ≡ table
+  pub whole : length copy ≡ 320
+  pub first : length table ≤ 320 → take (length table) copy ≡ table
 
 -- A call of the planner that was taken, with v for its verdict and len words written.
 pub record Taken (j : Job) (table′ buffer′ : List ℤ) (v : Verdict) (len : ℕ) (r : Checked) : Type 0 where

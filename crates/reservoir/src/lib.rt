@@ -9,8 +9,8 @@ use propagator::plans::plan;
 use questions::Refusal;
 ghost use mathlib.Core.Path.{_≡_};
 ghost use lib.ListN.{length};
-ghost use Rattle.model.specs.Job.{job};
 ghost use Rattle.model.specs.Planner.{refused};
+ghost use Rattle.tables.specs.Job.{call};
 ghost use Rattle.checker.specs.Judgement.{reply-of};
 ghost use Rattle.reservoir.specs.Assured.{written-of, Copied, Assured};
 
@@ -37,13 +37,13 @@ fn list_of(a: Answer) -> Written
     }
 }
 
-// The table's words copied, if it has at most 256.
-fn keep(table: &[i32], copy: &mut [i32; 256])
-    requires { ⌜ length (now copy) ≡ 256 ⌝ }
+// The table's words copied, if it has at most 320.
+fn keep(table: &[i32], copy: &mut [i32; 320])
+    requires { ⌜ length (now copy) ≡ 320 ⌝ }
     ensures { λ r. ⌜ Copied (now (table .entry)) (now (copy .exit)) ⌝ }
 {
     let n = table.len();
-    if 256 < n {
+    if 320 < n {
         return;
     }
     let mut i: usize = 0;
@@ -68,27 +68,24 @@ fn unread(answer: Answer, r: Refusal) -> Checked
 // and one that reads the list from other windows than those sent in (windows_of_64_events_lost).
 pub fn plan_and_read(
     h: i32,
-    low: i32,
-    high: i32,
-    q: i32,
-    cover: i32,
+    cages: &[i32],
     table: &mut [i32],
     lags: &[i32],
     buffer: &mut [i32],
 ) -> Checked
     ensures { λ r. ⌜
-        Assured (job h low high q cover (now (table .entry)) (now (lags .entry))) (now (buffer .entry)) (now (table .exit)) (now (buffer .exit)) r
+        Assured (call h (now (cages .entry)) (now (table .entry)) (now (lags .entry))) (now (buffer .entry)) (now (table .exit)) (now (buffer .exit)) r
         ⌝ }
 {
     let n = table.len();
-    let mut copy = [0i32; 256];
+    let mut copy = [0i32; 320];
     keep(table, &mut copy);
-    let answer = plan(h, low, high, q, cover, table, lags, buffer);
+    let answer = plan(h, cages, table, lags, buffer);
     let w = list_of(answer);
     match w {
         Written::Nothing(r) => unread(answer, r),
         Written::Listed(len) => {
-            let judgement = check(h, low, high, q, cover, &mut copy[..n], lags, &buffer[..len]);
+            let judgement = check(h, cages, &mut copy[..n], lags, &buffer[..len]);
             Checked {
                 answer: answer,
                 judgement: judgement,

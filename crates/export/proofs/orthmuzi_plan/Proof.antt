@@ -2,8 +2,7 @@
 -- Assumes nothing.
 use mathlib.Core.Path.{ap, _∙_}
 use mir.Facts.{toZ-ofZ}
-use Rattle.model.specs.Job.{job}
-use Rattle.tables.proofs.Holding.{job-same}
+use Rattle.tables.specs.Job.{call}
 use Rattle.export.specs.Words.{numbers-of}
 use Rattle.export.proofs.Fitting.{plan-small}
 use borrow.Author.Needs.{needs}
@@ -21,9 +20,9 @@ tell-requires : tie.Need-tell-requires
 tell-requires c κs =
     let s = c .before .before .before .before .before .before .before in
     let a = c .before .before .before .before .plan .ensures .0 in
-    let same = job-same (toZ-ofZ (s .fits .h)) (toZ-ofZ (s .fits .low)) (toZ-ofZ (s .fits .high)) (toZ-ofZ (s .fits .q)) (toZ-ofZ (s .fits .cover)) (s .args .table .now) (s .args .lags .now) in
+    let same = toZ-ofZ (s .fits .h) in
     rw (c .before .planned .ensures, a, same)
-    (plan-small (job (s .args .h) (s .args .low) (s .args .high) (s .args .q) (s .args .cover) (s .args .table .now) (s .args .lags .now)) (s .args .buffer .now))
+    (plan-small (call (s .args .h) (s .args .cages .now) (s .args .table .now) (s .args .lags .now)) (s .args .buffer .now))
 
 same-length : tie.Need-same-length
 same-length c = search needs
@@ -37,11 +36,11 @@ same-length-3 c = search needs
 returns : tie.Need-returns
 returns c =
     let s = c .before .before .before .before .before .before .before .before .before in
-    let same = job-same (toZ-ofZ (s .fits .h)) (toZ-ofZ (s .fits .low)) (toZ-ofZ (s .fits .high)) (toZ-ofZ (s .fits .q)) (toZ-ofZ (s .fits .cover)) (s .args .table .now) (s .args .lags .now) in
+    let same = toZ-ofZ (s .fits .h) in
     let p = c .before .before .before .before .before .before .plan .ensures in
     let a = c .before .before .before .planned .ensures
     ∙ ap numbers-of (rw same at (p .0)) in
-    let small = plan-small (job (s .args .h) (s .args .low) (s .args .high) (s .args .q) (s .args .cover) (s .args .table .now) (s .args .lags .now)) (s .args .buffer .now) in (
+    let small = plan-small (call (s .args .h) (s .args .cages .now) (s .args .table .now) (s .args .lags .now)) (s .args .buffer .now) in (
       returned _ (rw a at (c .before .tell .ensures .0)) (small .number),
       (
         rw a at (c .before .tell .ensures .1),

@@ -12,7 +12,7 @@ use Rattle.reservoir.proofs.keep.Statement.{statement}
 use Rattle.reservoir.proofs.keep.Tie as tie
 
 abbrev Inv-loop : tie.InvT-loop
-Inv-loop table copy₀ n i₀ copy i = (i ≤ n) × (n ≡ length table) × (n ≤ 256) × (length copy ≡ 256) × (take i copy ≡ take i table)
+Inv-loop table copy₀ n i₀ copy i = (i ≤ n) × (n ≡ length table) × (n ≤ 320) × (length copy ≡ 320) × (take i copy ≡ take i table)
 
 abbrev μ-loop : tie.MeasureT-loop
 μ-loop table copy₀ n i₀ copy i = n - i

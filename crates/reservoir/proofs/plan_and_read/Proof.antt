@@ -5,8 +5,7 @@ use mir.Facts.{toZ-ofZ}
 use native.Mathlib.Omega.{arith}
 use lib.ListN.{length, take}
 use lib.Seq.{length-take-le}
-use Rattle.model.specs.Job.{job}
-use Rattle.tables.proofs.Holding.{job-same}
+use Rattle.tables.specs.Job.{call}
 use Rattle.reservoir.proofs.Assuring.{assured-unread, few, fits, assured-read}
 use borrow.Author.Needs.{needs}
 use Rattle.reservoir.proofs.plan_and_read.Statement.{statement}
@@ -36,8 +35,8 @@ array-borrow-prefix-copy c =
     let p = l .before .before .before .plan in
     let s = l .before .before .before .before .before .before .before .before .before in
     let a = s .args in
-    let same = job-same (toZ-ofZ (s .fits .h)) (toZ-ofZ (s .fits .low)) (toZ-ofZ (s .fits .high)) (toZ-ofZ (s .fits .q)) (toZ-ofZ (s .fits .cover)) (a .table .now) (a .lags .now) in
-    let k = few (job (a .h) (a .low) (a .high) (a .q) (a .cover) (a .table .now) (a .lags .now)) (a .buffer .now) (p .result) (rw same at (p .ensures .0)) (rw same at (p .ensures .1 .0)) (rw same at (p .ensures .1 .1)) (c .before .w2 .given .0 .0) (sym (l .list-of .ensures) ∙ c .before .w2 .given .1) in
+    let same = toZ-ofZ (s .fits .h) in
+    let k = few (call (a .h) (a .cages .now) (a .table .now) (a .lags .now)) (a .buffer .now) (p .result) (rw same at (p .ensures .0)) (rw same at (p .ensures .1 .0)) (rw same at (p .ensures .1 .1)) (c .before .w2 .given .0 .0) (sym (l .list-of .ensures) ∙ c .before .w2 .given .1) in
     omega (arith, l .before .before .before .before .before .before .keep .ensures .whole)
 
 slice-aggregate-check : tie.Need-slice-aggregate-check
@@ -46,8 +45,8 @@ slice-aggregate-check c =
     let p = l .before .before .before .plan in
     let s = l .before .before .before .before .before .before .before .before .before in
     let a = s .args in
-    let same = job-same (toZ-ofZ (s .fits .h)) (toZ-ofZ (s .fits .low)) (toZ-ofZ (s .fits .high)) (toZ-ofZ (s .fits .q)) (toZ-ofZ (s .fits .cover)) (a .table .now) (a .lags .now) in
-    let k = few (job (a .h) (a .low) (a .high) (a .q) (a .cover) (a .table .now) (a .lags .now)) (a .buffer .now) (p .result) (rw same at (p .ensures .0)) (rw same at (p .ensures .1 .0)) (rw same at (p .ensures .1 .1)) (c .before .before .w2 .given .0 .0) (sym (l .list-of .ensures) ∙ c .before .before .w2 .given .1) in
+    let same = toZ-ofZ (s .fits .h) in
+    let k = few (call (a .h) (a .cages .now) (a .table .now) (a .lags .now)) (a .buffer .now) (p .result) (rw same at (p .ensures .0)) (rw same at (p .ensures .1 .0)) (rw same at (p .ensures .1 .1)) (c .before .before .w2 .given .0 .0) (sym (l .list-of .ensures) ∙ c .before .before .w2 .given .1) in
     sym (length-take-le _ _ (omega (arith, l .before .before .before .before .before .before .keep .ensures .whole)))
 
 slice-reshare-prefix-check : tie.Need-slice-reshare-prefix-check
@@ -56,8 +55,8 @@ slice-reshare-prefix-check c =
     let p = l .before .before .before .plan in
     let s = l .before .before .before .before .before .before .before .before .before in
     let a = s .args in
-    let same = job-same (toZ-ofZ (s .fits .h)) (toZ-ofZ (s .fits .low)) (toZ-ofZ (s .fits .high)) (toZ-ofZ (s .fits .q)) (toZ-ofZ (s .fits .cover)) (a .table .now) (a .lags .now) in
-    fits (job (a .h) (a .low) (a .high) (a .q) (a .cover) (a .table .now) (a .lags .now)) (a .buffer .now) (p .result) (rw same at (p .ensures .0)) (rw same at (p .ensures .1 .0)) (rw same at (p .ensures .1 .1)) (c .before .before .w2 .given .0 .0) (sym (l .list-of .ensures) ∙ c .before .before .w2 .given .1)
+    let same = toZ-ofZ (s .fits .h) in
+    fits (call (a .h) (a .cages .now) (a .table .now) (a .lags .now)) (a .buffer .now) (p .result) (rw same at (p .ensures .0)) (rw same at (p .ensures .1 .0)) (rw same at (p .ensures .1 .1)) (c .before .before .w2 .given .0 .0) (sym (l .list-of .ensures) ∙ c .before .before .w2 .given .1)
 
 slice-aggregate-check-2 : tie.Need-slice-aggregate-check-2
 slice-aggregate-check-2 c =
@@ -65,8 +64,8 @@ slice-aggregate-check-2 c =
     let p = l .before .before .before .plan in
     let s = l .before .before .before .before .before .before .before .before .before in
     let a = s .args in
-    let same = job-same (toZ-ofZ (s .fits .h)) (toZ-ofZ (s .fits .low)) (toZ-ofZ (s .fits .high)) (toZ-ofZ (s .fits .q)) (toZ-ofZ (s .fits .cover)) (a .table .now) (a .lags .now) in
-    sym (length-take-le _ _ (fits (job (a .h) (a .low) (a .high) (a .q) (a .cover) (a .table .now) (a .lags .now)) (a .buffer .now) (p .result) (rw same at (p .ensures .0)) (rw same at (p .ensures .1 .0)) (rw same at (p .ensures .1 .1)) (c .before .before .before .w2 .given .0 .0) (sym (l .list-of .ensures) ∙ c .before .before .before .w2 .given .1)))
+    let same = toZ-ofZ (s .fits .h) in
+    sym (length-take-le _ _ (fits (call (a .h) (a .cages .now) (a .table .now) (a .lags .now)) (a .buffer .now) (p .result) (rw same at (p .ensures .0)) (rw same at (p .ensures .1 .0)) (rw same at (p .ensures .1 .1)) (c .before .before .before .w2 .given .0 .0) (sym (l .list-of .ensures) ∙ c .before .before .before .w2 .given .1)))
 
 check-requires : tie.Need-check-requires
 check-requires c κs = search needs
@@ -83,8 +82,8 @@ returns c =
     let p = l .before .before .before .plan in
     let s = l .before .before .before .before .before .before .before .before .before in
     let a = s .args in
-    let same = job-same (toZ-ofZ (s .fits .h)) (toZ-ofZ (s .fits .low)) (toZ-ofZ (s .fits .high)) (toZ-ofZ (s .fits .q)) (toZ-ofZ (s .fits .cover)) (a .table .now) (a .lags .now) in
-    assured-unread (job (a .h) (a .low) (a .high) (a .q) (a .cover) (a .table .now) (a .lags .now)) (a .buffer .now) (p .result) (rw same at (p .ensures .0)) (rw same at (p .ensures .1 .0)) (rw same at (p .ensures .1 .1)) (c .before .before .w .given .0 .0) (sym (l .list-of .ensures) ∙ c .before .before .w .given .1) (c .unread .result) (c .unread .ensures .0) (c .unread .ensures .1)
+    let same = toZ-ofZ (s .fits .h) in
+    assured-unread (call (a .h) (a .cages .now) (a .table .now) (a .lags .now)) (a .buffer .now) (p .result) (rw same at (p .ensures .0)) (rw same at (p .ensures .1 .0)) (rw same at (p .ensures .1 .1)) (c .before .before .w .given .0 .0) (sym (l .list-of .ensures) ∙ c .before .before .w .given .1) (c .unread .result) (c .unread .ensures .0) (c .unread .ensures .1)
 
 same-length-3 : tie.Need-same-length-3
 same-length-3 c = search needs
@@ -99,14 +98,13 @@ returns-2 c =
     let kept = l .before .before .before .before .before .before .keep in
     let s = l .before .before .before .before .before .before .before .before .before in
     let a = s .args in
-    let same = job-same (toZ-ofZ (s .fits .h)) (toZ-ofZ (s .fits .low)) (toZ-ofZ (s .fits .high)) (toZ-ofZ (s .fits .q)) (toZ-ofZ (s .fits .cover)) (a .table .now) (a .lags .now) in
-    let j = job (a .h) (a .low) (a .high) (a .q) (a .cover) (a .table .now) (a .lags .now) in
+    let same = toZ-ofZ (s .fits .h) in
+    let j = call (a .h) (a .cages .now) (a .table .now) (a .lags .now) in
     let len = c .before .before .before .before .before .w2 .given .0 .0 in
     let listed = sym (l .list-of .ensures) ∙ c .before .before .before .before .before .w2 .given .1 in
     let room = few j (a .buffer .now) (p .result) (rw same at (p .ensures .0)) (rw same at (p .ensures .1 .0)) (rw same at (p .ensures .1 .1)) len listed in
     let copied = kept .ensures .first room in
-    let sent = job-same (toZ-ofZ (s .fits .h)) (toZ-ofZ (s .fits .low)) (toZ-ofZ (s .fits .high)) (toZ-ofZ (s .fits .q)) (toZ-ofZ (s .fits .cover)) (take (length (a .table .now)) (kept .last .1 .0)) (a .lags .now) in
-    assured-read j (a .buffer .now) (p .result) (rw same at (p .ensures .0)) (rw same at (p .ensures .1 .0)) (rw same at (p .ensures .1 .1)) len listed (c .before .check .result) (rw (sent, copied) at (c .before .check .ensures .0))
+    assured-read j (a .buffer .now) (p .result) (rw same at (p .ensures .0)) (rw same at (p .ensures .1 .0)) (rw same at (p .ensures .1 .1)) len listed (c .before .check .result) (rw (same, copied) at (c .before .check .ensures .0))
 
 pub plan-and-read-spec : {M : Type 1} → statement M
 plan-and-read-spec =
