@@ -1,7 +1,17 @@
 // Questions 1 to 11, 22, 29 and 30, which planner and reader both put to a call, in order; words are only compared, so that any word is harmless.
 use crate::Check;
+use crate::LEAST_ROOM;
+use crate::MOST_ROOM;
 use crate::Refusal;
 use tables::Height;
+use tables::LEAST_AMOUNT;
+use tables::LEAST_LEVEL;
+use tables::LEAST_MINUTES;
+use tables::MOST_AMOUNT;
+use tables::MOST_LAG_WORDS;
+use tables::MOST_LEVEL;
+use tables::MOST_MINUTES;
+use tables::MOST_WINDOW_WORDS;
 use tables::Reservoir;
 use tables::Time;
 use tables::Word;
@@ -67,10 +77,10 @@ pub fn is_event(w: i32, n: i32) -> bool
 fn one_sign(low: i32, high: i32) -> bool
     ensures { λ r. ⌜ r ≡ ((leZ (pos 1) low && leZ high (pos 9999)) || (leZ (negsuc 9998) low && leZ high (negsuc 0)) || (leZ (pos 0) low && leZ high (pos 0))) ⌝ }
 {
-    if spans(low, high, 1, 9999) {
+    if spans(low, high, 1, MOST_AMOUNT) {
         return true;
     }
-    if spans(low, high, -9999, -1) {
+    if spans(low, high, LEAST_AMOUNT, -1) {
         return true;
     }
     spans(low, high, 0, 0)
@@ -89,13 +99,13 @@ fn whole(len: usize, size: usize, most: usize) -> bool
 fn horizon_right(h: Time) -> bool
     ensures { λ r. ⌜ r ≡ horizon-right (h .0) ⌝ }
 {
-    between(h.0, 0, 20000)
+    between(h.0, 0, MOST_MINUTES)
 }
 
 fn limit_in_range(x: Height) -> bool
     ensures { λ r. ⌜ r ≡ limit-in-range (x .0) ⌝ }
 {
-    between(x.0, -1000000, 1000000)
+    between(x.0, LEAST_LEVEL, MOST_LEVEL)
 }
 
 fn limits_right(c: Reservoir) -> bool
@@ -210,7 +220,7 @@ fn lag_in_range(lags: &[i32], g: usize) -> bool
     requires { do ⌜ 3 * g + 3 ≤ (← ⟦lags.len()⟧) ⌝ }
     ensures { λ r. ⌜ r ≡ lag-in-range (now (lags .entry)) g ⌝ }
 {
-    between(lags[3 * g + 2], -20000, 20000)
+    between(lags[3 * g + 2], LEAST_MINUTES, MOST_MINUTES)
 }
 
 fn lag_right(q: usize, n: usize, lags: &[i32], g: usize) -> bool
@@ -315,7 +325,7 @@ fn window_questions(h: Time, cages: usize, table: &[i32]) -> Check
     requires { ⌜ cages ≤ 8 ⌝ }
     ensures { λ r. ⌜ check-of r ≡ window-questions (h .0) cages (now (table .entry)) ⌝ }
 {
-    if !whole(table.len(), 5, 320) {
+    if !whole(table.len(), 5, MOST_WINDOW_WORDS) {
         return refuse(4, 0);
     }
     let n = table.len() / 5;
@@ -335,7 +345,7 @@ fn lag_questions(n: usize, lags: &[i32]) -> Check
     requires { ⌜ n ≤ 64 ⌝ }
     ensures { λ r. ⌜ check-of r ≡ lag-questions n (now (lags .entry)) ⌝ }
 {
-    if !whole(lags.len(), 3, 768) {
+    if !whole(lags.len(), 3, MOST_LAG_WORDS) {
         return refuse(7, 0);
     }
     let m = lags.len() / 3;
@@ -354,10 +364,10 @@ fn lag_questions(n: usize, lags: &[i32]) -> Check
 pub fn room_question(room: usize) -> Check
     ensures { λ r. ⌜ check-of r ≡ ask 11 (room-right room) ⌝ }
 {
-    if room < 3 {
+    if room < LEAST_ROOM {
         return refuse(11, 0);
     }
-    if room > 1000000 {
+    if room > MOST_ROOM {
         return refuse(11, 0);
     }
     Check::Pass
