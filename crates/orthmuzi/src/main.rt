@@ -69,13 +69,7 @@ fn table_planned(s: Sizes, table: &[i32], space: &mut [i32], out: &mut [u8]) -> 
     let end = lags + 3 * s.lags;
     let windows = &mut space[..words];
     copy(&table[first..lags], windows);
-    planned(
-        table[0],
-        &table[2..behind],
-        windows,
-        &table[lags..end],
-        out,
-    )
+    planned(table[0], &table[2..behind], windows, &table[lags..end], out)
 }
 
 // The end of the text: what the program prints, put into `out`.

@@ -95,12 +95,12 @@ module _ (j : Call) (n : ℕ) (b : List ℤ) (w : Works j n (board b)) where
         record {
           holds = holds-apart;
           kinds = λ y l.
-            let size = events-apart j own (cage j c) in
-            let p : y < events j = rw size at l in
-            let q : y < n = rw (w .events-are) at p in
-            ap produces (m y q h-max)
-            ∙ produces-shown (own y) (board b y h-max) (sent j y h-max) (w .kinds y q)
-            ∙ ap produces (sym (sent-apart j own (cage j c) y h-max p));
+              let size = events-apart j own (cage j c) in
+              let p : y < events j = rw size at l in
+              let q : y < n = rw (w .events-are) at p in
+              ap produces (m y q h-max)
+              ∙ produces-shown (own y) (board b y h-max) (sent j y h-max) (w .kinds y q)
+              ∙ ap produces (sym (sent-apart j own (cage j c) y h-max p));
         }
 
 -- ---- put back
@@ -113,8 +113,8 @@ module _ (j : Call) (n : ℕ) (own : ℕ → Bool) (is : events j ≡ n) (sent�
         whole = rw is (length-table n (j .window-table) b);
         whole′ = rw is (length-table n sent′ s);
         masks = λ y l k.
-          let p : y < n = rw is at l in
-          windows-board n sent′ s y k p ∙ m y p k ∙ ap (shown (own y) k) (sym (windows-board n (j .window-table) b y k p));
+            let p : y < n = rw is at l in
+            windows-board n sent′ s y k p ∙ m y p k ∙ ap (shown (own y) k) (sym (windows-board n (j .window-table) b y k p));
         away = λ y l h k. refl;
         homes = λ y. refl;
       }

@@ -27,10 +27,11 @@ event-rules-requires c κs =
     let a = s .args in
     let k = c .before .before .before .before .before .job-of in
     let m = c .before .before .mask .ensures in
-    let at = c .before .before .before .before .before .before .cage-of in
-    (event-fits _ (a .n) (a .b .now) (s .pre .0) (a .e) (s .pre .2) (k .result) (at .result) (at .ensures) (k .ensures),
+    let at = c .before .before .before .before .before .before .cage-of in (
+      event-fits _ (a .n) (a .b .now) (s .pre .0) (a .e) (s .pre .2) (k .result) (at .result) (at .ensures) (k .ensures),
       event-held _ (a .n) (a .b .now) (s .pre .0) (a .e) (s .pre .2) (k .result) (at .result) (at .ensures) (k .ensures) (s .pre .1) m,
-      event-there _ (a .n) (a .b .now) (s .pre .0) (a .e) (s .pre .2) (k .result) (at .result) (at .ensures) (k .ensures))
+      event-there _ (a .n) (a .b .now) (s .pre .0) (a .e) (s .pre .2) (k .result) (at .result) (at .ensures) (k .ensures),
+    )
 
 join-requires : tie.Need-join-requires
 join-requires c κs =
