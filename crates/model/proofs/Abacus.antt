@@ -1,4 +1,4 @@
--- The papers' cases with P (document 01: K1 to K10; document 02: cover, cages): one listing of inputs and expected words, K1's text and what is printed of it too, one statement that the definitions give them, proved by computation.
+-- The papers' cases with P (document 01: K1 to K10; document 02: cover, cages, sets): one listing of inputs and expected words, K1's text and what is printed of it too, one statement that the definitions give them, proved by computation.
 -- By its name it is checked before all other proofs: a definition that is changed is told first by the words that it gives.
 -- Assumes nothing.
 use mathlib.Core.Path.{_≡_, refl}
@@ -8,17 +8,17 @@ use Prim.Native.String.{String}
 use lib.IntN.{ℤ, pos, negℤ}
 use lib.ListN.{take, length}
 use Rattle.integers.specs.Sum.{sum}
-use Rattle.model.specs.Job.{windows, Job}
+use Rattle.model.specs.Job.{windows, Job, any, every, begun, set-begin}
 use Rattle.model.specs.Levels.{most-in, sure-part}
-use Rattle.model.specs.Rules.{earliest, finding}
-use Rattle.model.specs.Facts.{any, quotes, quoted}
+use Rattle.model.specs.Rules.{earliest, finding, others}
+use Rattle.model.specs.Facts.{quotes, quoted}
 use Rattle.model.specs.Slips.{premise-words, slip-words, premise-list, premises-at, slip-at}
 use Rattle.model.specs.Agenda.{agenda, each-of}
 use Rattle.model.specs.Rounds.{settled, conflict, stopped, still-open, acted, attempt, run, made}
 use Rattle.model.specs.Questions.{each, questions, own-questions}
 use Rattle.model.specs.Planner.{Reply, refused, done, Outcome, plan}
 use Rattle.model.specs.Reader.{whole, reading, premises-fit, names, all-true, narrowed, gives, slip-questions, read-from, read-all, check}
-use Rattle.model.specs.Text.{bytes, digits-value, numbers-behind, job-of, job-text}
+use Rattle.model.specs.Text.{bytes, digits-value, numbers-behind, next-sets, job-of, job-text}
 use Rattle.model.specs.Print.{last-digits, numeral, integer, line-of, event-lines}
 use Rattle.model.specs.Program.{slip-room, program}
 
@@ -55,13 +55,14 @@ abbrev pub blank : ℕ → List ℤ
 blank zero = []
 blank (suc n) = pos 77 ∷ blank n
 
--- Horizon, cage table, window table, lag table.
-abbrev pub job : ℤ → List ℤ → List ℤ → List ℤ → Job
-job h cages table lags = record { horizon = h; cage-table = cages; window-table = table; lag-table = lags }
+-- Horizon, cage table, window table, lag table, set table.
+abbrev pub job : ℤ → List ℤ → List ℤ → List ℤ → List ℤ → Job
+job h cages table lags sets =
+    record { horizon = h; cage-table = cages; window-table = table; lag-table = lags; set-table = sets }
 
--- "H 100, Lmin 0, Lmax 10, no lags unless said", one cage, cover 1: Q, the window table, the lag table.
+-- "H 100, Lmin 0, Lmax 10, no lags unless said", one cage, cover 1, no sets: Q, the window table, the lag table.
 abbrev pub standard : ℤ → List ℤ → List ℤ → Job
-standard q table lags = job (pos 100) (pos 0 ∷ pos 10 ∷ q ∷ pos 1 ∷ []) table lags
+standard q table lags = job (pos 100) (pos 0 ∷ pos 10 ∷ q ∷ pos 1 ∷ []) table lags []
 
 -- ---- the cases
 
@@ -252,7 +253,7 @@ abbrev pub k10-horizon : Case
 k10-horizon =
     record {
       call = planner;
-      job = job (pos 20001) (pos 0 ∷ pos 10 ∷ pos 11 ∷ pos 1 ∷ []) (pos 5 ∷ pos 40 ∷ pos 6 ∷ pos 6 ∷ pos 0 ∷ pos 0 ∷ pos 30 ∷ neg 4 ∷ neg 4 ∷ pos 0 ∷ []) [];
+      job = job (pos 20001) (pos 0 ∷ pos 10 ∷ pos 11 ∷ pos 1 ∷ []) (pos 5 ∷ pos 40 ∷ pos 6 ∷ pos 6 ∷ pos 0 ∷ pos 0 ∷ pos 30 ∷ neg 4 ∷ neg 4 ∷ pos 0 ∷ []) [] [];
       buffer = blank 16;
       reply = refused 1 0;
       table-left = pos 5 ∷ pos 40 ∷ pos 6 ∷ pos 6 ∷ pos 0 ∷ pos 0 ∷ pos 30 ∷ neg 4 ∷ neg 4 ∷ pos 0 ∷ [];
@@ -265,7 +266,7 @@ abbrev pub k10-stock : Case
 k10-stock =
     record {
       call = planner;
-      job = job (pos 20000) (pos 0 ∷ pos 10 ∷ pos 11 ∷ pos 1 ∷ []) (pos 5 ∷ pos 40 ∷ pos 6 ∷ pos 6 ∷ pos 0 ∷ pos 0 ∷ pos 30 ∷ neg 4 ∷ neg 4 ∷ pos 0 ∷ []) [];
+      job = job (pos 20000) (pos 0 ∷ pos 10 ∷ pos 11 ∷ pos 1 ∷ []) (pos 5 ∷ pos 40 ∷ pos 6 ∷ pos 6 ∷ pos 0 ∷ pos 0 ∷ pos 30 ∷ neg 4 ∷ neg 4 ∷ pos 0 ∷ []) [] [];
       buffer = blank 16;
       reply = refused 3 0;
       table-left = pos 5 ∷ pos 40 ∷ pos 6 ∷ pos 6 ∷ pos 0 ∷ pos 0 ∷ pos 30 ∷ neg 4 ∷ neg 4 ∷ pos 0 ∷ [];
@@ -291,7 +292,7 @@ abbrev pub k1-later : Case
 k1-later =
     record {
       call = planner;
-      job = job (pos 100) (pos 0 ∷ pos 10 ∷ pos 0 ∷ pos 0 ∷ []) (pos 5 ∷ pos 40 ∷ pos 6 ∷ pos 6 ∷ pos 0 ∷ pos 0 ∷ pos 30 ∷ neg 4 ∷ neg 4 ∷ pos 0 ∷ []) [];
+      job = job (pos 100) (pos 0 ∷ pos 10 ∷ pos 0 ∷ pos 0 ∷ []) (pos 5 ∷ pos 40 ∷ pos 6 ∷ pos 6 ∷ pos 0 ∷ pos 0 ∷ pos 30 ∷ neg 4 ∷ neg 4 ∷ pos 0 ∷ []) [] [];
       buffer = blank 18;
       reply = done settled 1 2 16;
       table-left = pos 5 ∷ pos 40 ∷ pos 6 ∷ pos 6 ∷ pos 0 ∷ pos 6 ∷ pos 30 ∷ neg 4 ∷ neg 4 ∷ pos 0 ∷ [];
@@ -304,7 +305,7 @@ abbrev pub k7-later : Case
 k7-later =
     record {
       call = planner;
-      job = job (pos 100) (pos 0 ∷ pos 10 ∷ pos 0 ∷ pos 0 ∷ []) (pos 7 ∷ pos 7 ∷ pos 6 ∷ pos 6 ∷ pos 0 ∷ pos 7 ∷ pos 7 ∷ neg 4 ∷ neg 4 ∷ pos 0 ∷ []) [];
+      job = job (pos 100) (pos 0 ∷ pos 10 ∷ pos 0 ∷ pos 0 ∷ []) (pos 7 ∷ pos 7 ∷ pos 6 ∷ pos 6 ∷ pos 0 ∷ pos 7 ∷ pos 7 ∷ neg 4 ∷ neg 4 ∷ pos 0 ∷ []) [] [];
       buffer = blank 22;
       reply = done conflict 1 1 19;
       table-left = pos 7 ∷ pos 7 ∷ pos 6 ∷ pos 6 ∷ pos 0 ∷ pos 7 ∷ pos 7 ∷ neg 4 ∷ neg 4 ∷ pos 0 ∷ [];
@@ -317,7 +318,7 @@ abbrev pub cover-refused : Case
 cover-refused =
     record {
       call = planner;
-      job = job (pos 100) (pos 0 ∷ pos 10 ∷ pos 0 ∷ pos 2 ∷ []) (pos 7 ∷ pos 7 ∷ pos 6 ∷ pos 6 ∷ pos 0 ∷ pos 7 ∷ pos 7 ∷ neg 4 ∷ neg 4 ∷ pos 0 ∷ []) [];
+      job = job (pos 100) (pos 0 ∷ pos 10 ∷ pos 0 ∷ pos 2 ∷ []) (pos 7 ∷ pos 7 ∷ pos 6 ∷ pos 6 ∷ pos 0 ∷ pos 7 ∷ pos 7 ∷ neg 4 ∷ neg 4 ∷ pos 0 ∷ []) [] [];
       buffer = blank 16;
       reply = refused 22 0;
       table-left = pos 7 ∷ pos 7 ∷ pos 6 ∷ pos 6 ∷ pos 0 ∷ pos 7 ∷ pos 7 ∷ neg 4 ∷ neg 4 ∷ pos 0 ∷ [];
@@ -330,7 +331,7 @@ abbrev pub cover-last : Case
 cover-last =
     record {
       call = reader;
-      job = job (pos 100) (pos 0 ∷ pos 10 ∷ pos 11 ∷ pos 2 ∷ []) [] [];
+      job = job (pos 100) (pos 0 ∷ pos 10 ∷ pos 11 ∷ pos 2 ∷ []) [] [] [];
       buffer = blank 3;
       reply = refused 3 0;
       table-left = [];
@@ -343,7 +344,7 @@ abbrev pub cover-first : Case
 cover-first =
     record {
       call = reader;
-      job = job (pos 100) (pos 0 ∷ pos 10 ∷ pos 0 ∷ pos 2 ∷ []) (pos 7 ∷ []) [];
+      job = job (pos 100) (pos 0 ∷ pos 10 ∷ pos 0 ∷ pos 2 ∷ []) (pos 7 ∷ []) [] [];
       buffer = blank 3;
       reply = refused 22 0;
       table-left = pos 7 ∷ [];
@@ -356,7 +357,7 @@ abbrev pub two-cages : Case
 two-cages =
     record {
       call = planner;
-      job = job (pos 100) (pos 0 ∷ pos 10 ∷ pos 0 ∷ pos 1 ∷ pos 0 ∷ pos 10 ∷ pos 0 ∷ pos 0 ∷ []) (pos 5 ∷ pos 40 ∷ pos 6 ∷ pos 6 ∷ pos 1 ∷ pos 0 ∷ pos 3 ∷ pos 9 ∷ pos 9 ∷ pos 0 ∷ pos 0 ∷ pos 30 ∷ neg 4 ∷ neg 4 ∷ pos 1 ∷ []) [];
+      job = job (pos 100) (pos 0 ∷ pos 10 ∷ pos 0 ∷ pos 1 ∷ pos 0 ∷ pos 10 ∷ pos 0 ∷ pos 0 ∷ []) (pos 5 ∷ pos 40 ∷ pos 6 ∷ pos 6 ∷ pos 1 ∷ pos 0 ∷ pos 3 ∷ pos 9 ∷ pos 9 ∷ pos 0 ∷ pos 0 ∷ pos 30 ∷ neg 4 ∷ neg 4 ∷ pos 1 ∷ []) [] [];
       buffer = blank 18;
       reply = done settled 1 2 16;
       table-left = pos 5 ∷ pos 40 ∷ pos 6 ∷ pos 6 ∷ pos 1 ∷ pos 0 ∷ pos 3 ∷ pos 9 ∷ pos 9 ∷ pos 0 ∷ pos 6 ∷ pos 30 ∷ neg 4 ∷ neg 4 ∷ pos 1 ∷ [];
@@ -369,7 +370,7 @@ abbrev pub no-cage : Case
 no-cage =
     record {
       call = planner;
-      job = job (pos 100) [] (pos 7 ∷ pos 7 ∷ pos 6 ∷ pos 6 ∷ pos 0 ∷ pos 7 ∷ pos 7 ∷ neg 4 ∷ neg 4 ∷ pos 0 ∷ []) [];
+      job = job (pos 100) [] (pos 7 ∷ pos 7 ∷ pos 6 ∷ pos 6 ∷ pos 0 ∷ pos 7 ∷ pos 7 ∷ neg 4 ∷ neg 4 ∷ pos 0 ∷ []) [] [];
       buffer = blank 16;
       reply = refused 29 0;
       table-left = pos 7 ∷ pos 7 ∷ pos 6 ∷ pos 6 ∷ pos 0 ∷ pos 7 ∷ pos 7 ∷ neg 4 ∷ neg 4 ∷ pos 0 ∷ [];
@@ -395,7 +396,7 @@ abbrev pub second-cage : Case
 second-cage =
     record {
       call = planner;
-      job = job (pos 100) (pos 0 ∷ pos 10 ∷ pos 0 ∷ pos 1 ∷ pos 0 ∷ pos 10 ∷ pos 11 ∷ pos 1 ∷ []) (pos 7 ∷ pos 7 ∷ pos 6 ∷ pos 6 ∷ pos 0 ∷ pos 7 ∷ pos 7 ∷ neg 4 ∷ neg 4 ∷ pos 0 ∷ []) [];
+      job = job (pos 100) (pos 0 ∷ pos 10 ∷ pos 0 ∷ pos 1 ∷ pos 0 ∷ pos 10 ∷ pos 11 ∷ pos 1 ∷ []) (pos 7 ∷ pos 7 ∷ pos 6 ∷ pos 6 ∷ pos 0 ∷ pos 7 ∷ pos 7 ∷ neg 4 ∷ neg 4 ∷ pos 0 ∷ []) [] [];
       buffer = blank 16;
       reply = refused 3 1;
       table-left = pos 7 ∷ pos 7 ∷ pos 6 ∷ pos 6 ∷ pos 0 ∷ pos 7 ∷ pos 7 ∷ neg 4 ∷ neg 4 ∷ pos 0 ∷ [];
@@ -408,7 +409,7 @@ abbrev pub cage-by-cage : Case
 cage-by-cage =
     record {
       call = reader;
-      job = job (pos 100) (pos 0 ∷ pos 10 ∷ pos 11 ∷ pos 1 ∷ pos 0 ∷ pos 1000001 ∷ pos 0 ∷ pos 1 ∷ []) [] [];
+      job = job (pos 100) (pos 0 ∷ pos 10 ∷ pos 11 ∷ pos 1 ∷ pos 0 ∷ pos 1000001 ∷ pos 0 ∷ pos 1 ∷ []) [] [] [];
       buffer = blank 3;
       reply = refused 2 1;
       table-left = [];
@@ -429,6 +430,188 @@ cage-last =
       printed = [];
     }
 
+-- A set of two with total 10..11: rule 17 narrows the first member by the most of the other.
+abbrev pub set-least-total : Case
+set-least-total =
+    record {
+      call = planner;
+      job = job (pos 100) (pos 0 ∷ pos 1000 ∷ pos 0 ∷ pos 1 ∷ []) (pos 0 ∷ pos 10 ∷ pos 1 ∷ pos 9 ∷ pos 0 ∷ pos 0 ∷ pos 10 ∷ pos 2 ∷ pos 3 ∷ pos 0 ∷ []) [] (pos 10 ∷ pos 11 ∷ pos 2 ∷ pos 0 ∷ pos 1 ∷ []);
+      buffer = blank 14;
+      reply = done settled 1 2 13;
+      table-left = pos 0 ∷ pos 10 ∷ pos 7 ∷ pos 9 ∷ pos 0 ∷ pos 0 ∷ pos 10 ∷ pos 2 ∷ pos 3 ∷ pos 0 ∷ [];
+      buffer-left = pos 17 ∷ pos 0 ∷ pos 0 ∷ pos 3 ∷ pos 7 ∷ pos 1 ∷ pos 1 ∷ pos 4 ∷ pos 3 ∷ pos 10 ∷ pos 1 ∷ pos 0 ∷ pos 4207 ∷ pos 77 ∷ [];
+      printed = pos 17 ∷ pos 0 ∷ pos 0 ∷ pos 3 ∷ pos 7 ∷ pos 1 ∷ pos 1 ∷ pos 4 ∷ pos 3 ∷ pos 10 ∷ [];
+    }
+
+-- The same list read.
+abbrev pub set-read : Case
+set-read =
+    record {
+      call = reader;
+      job = job (pos 100) (pos 0 ∷ pos 1000 ∷ pos 0 ∷ pos 1 ∷ []) (pos 0 ∷ pos 10 ∷ pos 1 ∷ pos 9 ∷ pos 0 ∷ pos 0 ∷ pos 10 ∷ pos 2 ∷ pos 3 ∷ pos 0 ∷ []) [] (pos 10 ∷ pos 11 ∷ pos 2 ∷ pos 0 ∷ pos 1 ∷ []);
+      buffer = pos 17 ∷ pos 0 ∷ pos 0 ∷ pos 3 ∷ pos 7 ∷ pos 1 ∷ pos 1 ∷ pos 4 ∷ pos 3 ∷ pos 10 ∷ pos 1 ∷ pos 0 ∷ pos 4207 ∷ [];
+      reply = done still-open 0 0 0;
+      table-left = pos 0 ∷ pos 10 ∷ pos 7 ∷ pos 9 ∷ pos 0 ∷ pos 0 ∷ pos 10 ∷ pos 2 ∷ pos 3 ∷ pos 0 ∷ [];
+      buffer-left = pos 17 ∷ pos 0 ∷ pos 0 ∷ pos 3 ∷ pos 7 ∷ pos 1 ∷ pos 1 ∷ pos 4 ∷ pos 3 ∷ pos 10 ∷ pos 1 ∷ pos 0 ∷ pos 4207 ∷ [];
+      printed = pos 17 ∷ pos 0 ∷ pos 0 ∷ pos 3 ∷ pos 7 ∷ pos 1 ∷ pos 1 ∷ pos 4 ∷ pos 3 ∷ pos 10 ∷ [];
+    }
+
+-- Total at most 11: rule 18 narrows by the least of the other.
+abbrev pub set-most-total : Case
+set-most-total =
+    record {
+      call = planner;
+      job = job (pos 100) (pos 0 ∷ pos 1000 ∷ pos 0 ∷ pos 1 ∷ []) (pos 0 ∷ pos 10 ∷ pos 7 ∷ pos 9 ∷ pos 0 ∷ pos 0 ∷ pos 10 ∷ pos 2 ∷ pos 5 ∷ pos 0 ∷ []) [] (pos 0 ∷ pos 11 ∷ pos 2 ∷ pos 0 ∷ pos 1 ∷ []);
+      buffer = blank 14;
+      reply = done settled 1 2 13;
+      table-left = pos 0 ∷ pos 10 ∷ pos 7 ∷ pos 9 ∷ pos 0 ∷ pos 0 ∷ pos 10 ∷ pos 2 ∷ pos 4 ∷ pos 0 ∷ [];
+      buffer-left = pos 18 ∷ pos 0 ∷ pos 1 ∷ pos 4 ∷ pos 4 ∷ pos 1 ∷ pos 0 ∷ pos 3 ∷ pos 7 ∷ pos 10 ∷ pos 1 ∷ pos 0 ∷ pos 4207 ∷ pos 77 ∷ [];
+      printed = pos 18 ∷ pos 0 ∷ pos 1 ∷ pos 4 ∷ pos 4 ∷ pos 1 ∷ pos 0 ∷ pos 3 ∷ pos 7 ∷ pos 10 ∷ [];
+    }
+
+-- A neutral member is a target, and its conflict quotes its own end.
+abbrev pub set-neutral : Case
+set-neutral =
+    record {
+      call = planner;
+      job = job (pos 100) (pos 0 ∷ pos 1000 ∷ pos 0 ∷ pos 1 ∷ []) (pos 0 ∷ pos 10 ∷ pos 0 ∷ pos 0 ∷ pos 0 ∷ pos 0 ∷ pos 10 ∷ pos 2 ∷ pos 3 ∷ pos 0 ∷ []) [] (pos 4 ∷ pos 9 ∷ pos 2 ∷ pos 0 ∷ pos 1 ∷ []);
+      buffer = blank 17;
+      reply = done conflict 1 1 16;
+      table-left = pos 0 ∷ pos 10 ∷ pos 0 ∷ pos 0 ∷ pos 0 ∷ pos 0 ∷ pos 10 ∷ pos 2 ∷ pos 3 ∷ pos 0 ∷ [];
+      buffer-left = pos 17 ∷ pos 0 ∷ pos 0 ∷ pos 0 ∷ pos 0 ∷ pos 2 ∷ pos 0 ∷ pos 4 ∷ pos 0 ∷ pos 1 ∷ pos 4 ∷ pos 3 ∷ pos 13 ∷ pos 1 ∷ pos 0 ∷ pos 4207 ∷ pos 77 ∷ [];
+      printed = pos 17 ∷ pos 0 ∷ pos 0 ∷ pos 0 ∷ pos 0 ∷ pos 2 ∷ pos 0 ∷ pos 4 ∷ pos 0 ∷ pos 1 ∷ pos 4 ∷ pos 3 ∷ pos 13 ∷ [];
+    }
+
+-- K5 with a set of its one event, least −3: rule 17 comes first, and then rule 11 has nothing to narrow.
+abbrev pub set-before-events : Case
+set-before-events =
+    record {
+      call = planner;
+      job = job (pos 100) (pos 0 ∷ pos 10 ∷ pos 5 ∷ pos 1 ∷ []) (pos 0 ∷ pos 30 ∷ neg 9 ∷ neg 2 ∷ pos 0 ∷ []) [] (neg 3 ∷ pos 0 ∷ pos 1 ∷ pos 0 ∷ []);
+      buffer = blank 20;
+      reply = done settled 1 2 10;
+      table-left = pos 0 ∷ pos 30 ∷ neg 3 ∷ neg 2 ∷ pos 0 ∷ [];
+      buffer-left = pos 17 ∷ pos 0 ∷ pos 0 ∷ pos 3 ∷ neg 3 ∷ pos 0 ∷ pos 7 ∷ pos 1 ∷ pos 0 ∷ pos 4207 ∷ blank 10;
+      printed = [];
+    }
+
+-- A neutral member is not quoted.
+abbrev pub set-unquoted : Case
+set-unquoted =
+    record {
+      call = planner;
+      job = job (pos 100) (pos 0 ∷ pos 1000 ∷ pos 0 ∷ pos 1 ∷ []) (pos 0 ∷ pos 10 ∷ pos 0 ∷ pos 0 ∷ pos 0 ∷ pos 0 ∷ pos 10 ∷ pos 2 ∷ pos 3 ∷ pos 0 ∷ []) [] (pos 3 ∷ pos 9 ∷ pos 2 ∷ pos 0 ∷ pos 1 ∷ []);
+      buffer = blank 20;
+      reply = done settled 1 2 10;
+      table-left = pos 0 ∷ pos 10 ∷ pos 0 ∷ pos 0 ∷ pos 0 ∷ pos 0 ∷ pos 10 ∷ pos 3 ∷ pos 3 ∷ pos 0 ∷ [];
+      buffer-left = pos 17 ∷ pos 0 ∷ pos 1 ∷ pos 3 ∷ pos 3 ∷ pos 0 ∷ pos 7 ∷ pos 1 ∷ pos 0 ∷ pos 4207 ∷ blank 10;
+      printed = [];
+    }
+
+-- A target that is no member: 14.
+abbrev pub set-no-member : Case
+set-no-member =
+    record {
+      call = reader;
+      job = job (pos 100) (pos 0 ∷ pos 1000 ∷ pos 0 ∷ pos 1 ∷ []) (pos 0 ∷ pos 10 ∷ pos 1 ∷ pos 9 ∷ pos 0 ∷ pos 0 ∷ pos 10 ∷ pos 2 ∷ pos 3 ∷ pos 0 ∷ []) [] (pos 10 ∷ pos 11 ∷ pos 1 ∷ pos 0 ∷ []);
+      buffer = pos 17 ∷ pos 0 ∷ pos 1 ∷ pos 3 ∷ pos 3 ∷ pos 1 ∷ pos 0 ∷ pos 4 ∷ pos 9 ∷ pos 10 ∷ pos 1 ∷ pos 0 ∷ pos 4207 ∷ [];
+      reply = refused 14 0;
+      table-left = pos 0 ∷ pos 10 ∷ pos 1 ∷ pos 9 ∷ pos 0 ∷ pos 0 ∷ pos 10 ∷ pos 2 ∷ pos 3 ∷ pos 0 ∷ [];
+      buffer-left = pos 17 ∷ pos 0 ∷ pos 1 ∷ pos 3 ∷ pos 3 ∷ pos 1 ∷ pos 0 ∷ pos 4 ∷ pos 9 ∷ pos 10 ∷ pos 1 ∷ pos 0 ∷ pos 4207 ∷ [];
+      printed = [];
+    }
+
+-- A set cut short: 31, before any 32.
+abbrev pub set-cut : Case
+set-cut =
+    record {
+      call = planner;
+      job = job (pos 100) (pos 0 ∷ pos 1000 ∷ pos 0 ∷ pos 1 ∷ []) (pos 0 ∷ pos 10 ∷ pos 1 ∷ pos 9 ∷ pos 0 ∷ pos 0 ∷ pos 10 ∷ pos 2 ∷ pos 3 ∷ pos 0 ∷ []) [] (pos 0 ∷ pos 5 ∷ pos 0 ∷ pos 0 ∷ pos 5 ∷ []);
+      buffer = blank 3;
+      reply = refused 31 1;
+      table-left = pos 0 ∷ pos 10 ∷ pos 1 ∷ pos 9 ∷ pos 0 ∷ pos 0 ∷ pos 10 ∷ pos 2 ∷ pos 3 ∷ pos 0 ∷ [];
+      buffer-left = blank 3;
+      printed = [];
+    }
+
+-- A seventeenth set: 31, place 16.
+abbrev pub set-many : Case
+set-many =
+    record {
+      call = planner;
+      job = job (pos 100) (pos 0 ∷ pos 1000 ∷ pos 0 ∷ pos 1 ∷ []) (pos 0 ∷ pos 10 ∷ pos 1 ∷ pos 9 ∷ pos 0 ∷ pos 0 ∷ pos 10 ∷ pos 2 ∷ pos 3 ∷ pos 0 ∷ []) [] (pos 0 ∷ pos 5 ∷ pos 1 ∷ pos 0 ∷ pos 0 ∷ pos 5 ∷ pos 1 ∷ pos 0 ∷ pos 0 ∷ pos 5 ∷ pos 1 ∷ pos 0 ∷ pos 0 ∷ pos 5 ∷ pos 1 ∷ pos 0 ∷ pos 0 ∷ pos 5 ∷ pos 1 ∷ pos 0 ∷ pos 0 ∷ pos 5 ∷ pos 1 ∷ pos 0 ∷ pos 0 ∷ pos 5 ∷ pos 1 ∷ pos 0 ∷ pos 0 ∷ pos 5 ∷ pos 1 ∷ pos 0 ∷ pos 0 ∷ pos 5 ∷ pos 1 ∷ pos 0 ∷ pos 0 ∷ pos 5 ∷ pos 1 ∷ pos 0 ∷ pos 0 ∷ pos 5 ∷ pos 1 ∷ pos 0 ∷ pos 0 ∷ pos 5 ∷ pos 1 ∷ pos 0 ∷ pos 0 ∷ pos 5 ∷ pos 1 ∷ pos 0 ∷ pos 0 ∷ pos 5 ∷ pos 1 ∷ pos 0 ∷ pos 0 ∷ pos 5 ∷ pos 1 ∷ pos 0 ∷ pos 0 ∷ pos 5 ∷ pos 1 ∷ pos 0 ∷ pos 0 ∷ []);
+      buffer = blank 3;
+      reply = refused 31 16;
+      table-left = pos 0 ∷ pos 10 ∷ pos 1 ∷ pos 9 ∷ pos 0 ∷ pos 0 ∷ pos 10 ∷ pos 2 ∷ pos 3 ∷ pos 0 ∷ [];
+      buffer-left = blank 3;
+      printed = [];
+    }
+
+-- A member count under 1, walked as 0: 32.
+abbrev pub set-empty : Case
+set-empty =
+    record {
+      call = planner;
+      job = job (pos 100) (pos 0 ∷ pos 1000 ∷ pos 0 ∷ pos 1 ∷ []) (pos 0 ∷ pos 10 ∷ pos 1 ∷ pos 9 ∷ pos 0 ∷ pos 0 ∷ pos 10 ∷ pos 2 ∷ pos 3 ∷ pos 0 ∷ []) [] (pos 0 ∷ pos 5 ∷ pos 1 ∷ pos 0 ∷ pos 0 ∷ pos 5 ∷ neg 1 ∷ []);
+      buffer = blank 3;
+      reply = refused 32 1;
+      table-left = pos 0 ∷ pos 10 ∷ pos 1 ∷ pos 9 ∷ pos 0 ∷ pos 0 ∷ pos 10 ∷ pos 2 ∷ pos 3 ∷ pos 0 ∷ [];
+      buffer-left = blank 3;
+      printed = [];
+    }
+
+-- A member twice: 32.
+abbrev pub set-twice : Case
+set-twice =
+    record {
+      call = planner;
+      job = job (pos 100) (pos 0 ∷ pos 1000 ∷ pos 0 ∷ pos 1 ∷ []) (pos 0 ∷ pos 10 ∷ pos 1 ∷ pos 9 ∷ pos 0 ∷ pos 0 ∷ pos 10 ∷ pos 2 ∷ pos 3 ∷ pos 0 ∷ []) [] (pos 0 ∷ pos 5 ∷ pos 2 ∷ pos 1 ∷ pos 1 ∷ []);
+      buffer = blank 3;
+      reply = refused 32 0;
+      table-left = pos 0 ∷ pos 10 ∷ pos 1 ∷ pos 9 ∷ pos 0 ∷ pos 0 ∷ pos 10 ∷ pos 2 ∷ pos 3 ∷ pos 0 ∷ [];
+      buffer-left = blank 3;
+      printed = [];
+    }
+
+-- A member that is no event: 32.
+abbrev pub set-stranger : Case
+set-stranger =
+    record {
+      call = planner;
+      job = job (pos 100) (pos 0 ∷ pos 1000 ∷ pos 0 ∷ pos 1 ∷ []) (pos 0 ∷ pos 10 ∷ pos 1 ∷ pos 9 ∷ pos 0 ∷ pos 0 ∷ pos 10 ∷ pos 2 ∷ pos 3 ∷ pos 0 ∷ []) [] (pos 0 ∷ pos 5 ∷ pos 2 ∷ pos 1 ∷ pos 2 ∷ []);
+      buffer = blank 3;
+      reply = refused 32 0;
+      table-left = pos 0 ∷ pos 10 ∷ pos 1 ∷ pos 9 ∷ pos 0 ∷ pos 0 ∷ pos 10 ∷ pos 2 ∷ pos 3 ∷ pos 0 ∷ [];
+      buffer-left = blank 3;
+      printed = [];
+    }
+
+-- Least over most: 33.
+abbrev pub set-turned : Case
+set-turned =
+    record {
+      call = planner;
+      job = job (pos 100) (pos 0 ∷ pos 1000 ∷ pos 0 ∷ pos 1 ∷ []) (pos 0 ∷ pos 10 ∷ pos 1 ∷ pos 9 ∷ pos 0 ∷ pos 0 ∷ pos 10 ∷ pos 2 ∷ pos 3 ∷ pos 0 ∷ []) [] (pos 0 ∷ pos 5 ∷ pos 1 ∷ pos 0 ∷ pos 5 ∷ pos 0 ∷ pos 1 ∷ pos 0 ∷ []);
+      buffer = blank 3;
+      reply = refused 33 1;
+      table-left = pos 0 ∷ pos 10 ∷ pos 1 ∷ pos 9 ∷ pos 0 ∷ pos 0 ∷ pos 10 ∷ pos 2 ∷ pos 3 ∷ pos 0 ∷ [];
+      buffer-left = blank 3;
+      printed = [];
+    }
+
+-- Rule 15 is none: 13.
+abbrev pub rule-15 : Case
+rule-15 =
+    record {
+      call = reader;
+      job = job (pos 100) (pos 0 ∷ pos 1000 ∷ pos 0 ∷ pos 1 ∷ []) (pos 0 ∷ pos 10 ∷ pos 1 ∷ pos 9 ∷ pos 0 ∷ pos 0 ∷ pos 10 ∷ pos 2 ∷ pos 3 ∷ pos 0 ∷ []) [] (pos 10 ∷ pos 11 ∷ pos 2 ∷ pos 0 ∷ pos 1 ∷ []);
+      buffer = pos 15 ∷ pos 0 ∷ pos 0 ∷ pos 3 ∷ pos 7 ∷ pos 1 ∷ pos 1 ∷ pos 4 ∷ pos 3 ∷ pos 10 ∷ pos 1 ∷ pos 0 ∷ pos 4207 ∷ [];
+      reply = refused 13 0;
+      table-left = pos 0 ∷ pos 10 ∷ pos 1 ∷ pos 9 ∷ pos 0 ∷ pos 0 ∷ pos 10 ∷ pos 2 ∷ pos 3 ∷ pos 0 ∷ [];
+      buffer-left = pos 15 ∷ pos 0 ∷ pos 0 ∷ pos 3 ∷ pos 7 ∷ pos 1 ∷ pos 1 ∷ pos 4 ∷ pos 3 ∷ pos 10 ∷ pos 1 ∷ pos 0 ∷ pos 4207 ∷ [];
+      printed = [];
+    }
+
 -- The program is given this text, and prints that one.
 abbrev pub Prints : String → String → Type 0
 Prints given prints = program (bytes given) ≡ bytes prints
@@ -440,7 +623,7 @@ Right c =
 
 pub record Cases : Type 0 where
   pub k1-right : Right k1
-  pub k1-text : Prints "100 1 0 10 0 1 2 0\n5 40 6 6 0\n0 30 -4 -4 0\n" "settled 1 2\n0 5 40 6 6\n1 5 30 -4 -4\n"
+  pub k1-text : Prints "100 1 0 10 0 1 2 0\n5 40 6 6 0\n0 30 -4 -4 0\n0\n" "settled 1 2\n0 5 40 6 6\n1 5 30 -4 -4\n"
   pub k2-right : Right k2
   pub k3-right : Right k3
   pub k4-right : Right k4
@@ -458,7 +641,7 @@ pub record Cases : Type 0 where
   pub k10-stock-right : Right k10-stock
   pub k10-order-right : Right k10-order
   pub k1-later-right : Right k1-later
-  pub k1-later-text : Prints "100 1 0 10 0 0 2 0\n5 40 6 6 0\n0 30 -4 -4 0\n" "settled 1 2\n0 5 40 6 6\n1 6 30 -4 -4\n"
+  pub k1-later-text : Prints "100 1 0 10 0 0 2 0\n5 40 6 6 0\n0 30 -4 -4 0\n0\n" "settled 1 2\n0 5 40 6 6\n1 6 30 -4 -4\n"
   pub k7-later-right : Right k7-later
   pub cover-refused-right : Right cover-refused
   pub cover-last-right : Right cover-last
@@ -469,9 +652,23 @@ pub record Cases : Type 0 where
   pub second-cage-right : Right second-cage
   pub cage-by-cage-right : Right cage-by-cage
   pub cage-last-right : Right cage-last
+  pub set-least-total-right : Right set-least-total
+  pub set-read-right : Right set-read
+  pub set-most-total-right : Right set-most-total
+  pub set-neutral-right : Right set-neutral
+  pub set-before-events-right : Right set-before-events
+  pub set-unquoted-right : Right set-unquoted
+  pub set-no-member-right : Right set-no-member
+  pub set-cut-right : Right set-cut
+  pub set-many-right : Right set-many
+  pub set-empty-right : Right set-empty
+  pub set-twice-right : Right set-twice
+  pub set-stranger-right : Right set-stranger
+  pub set-turned-right : Right set-turned
+  pub rule-15-right : Right rule-15
 
 pub all-right : Cases
-unfolding plan check questions own-questions each run made agenda each-of attempt acted premise-list slip-words premise-words quotes quoted any finding earliest sure-part most-in sum windows premises-at whole slip-at reading premises-fit names all-true narrowed gives slip-questions read-from read-all job-text numbers-behind digits-value job-of slip-room event-lines line-of integer numeral last-digits
+unfolding plan check questions own-questions each run made agenda each-of attempt acted premise-list slip-words premise-words quotes quoted any every begun set-begin others finding earliest sure-part most-in sum windows premises-at whole slip-at reading premises-fit names all-true narrowed gives slip-questions read-from read-all job-text numbers-behind digits-value job-of next-sets slip-room event-lines line-of integer numeral last-digits
 all-right =
     record {
       k1-right = refl;
@@ -504,4 +701,18 @@ all-right =
       second-cage-right = refl;
       cage-by-cage-right = refl;
       cage-last-right = refl;
+      set-least-total-right = refl;
+      set-read-right = refl;
+      set-most-total-right = refl;
+      set-neutral-right = refl;
+      set-before-events-right = refl;
+      set-unquoted-right = refl;
+      set-no-member-right = refl;
+      set-cut-right = refl;
+      set-many-right = refl;
+      set-empty-right = refl;
+      set-twice-right = refl;
+      set-stranger-right = refl;
+      set-turned-right = refl;
+      rule-15-right = refl;
     }

@@ -1,4 +1,4 @@
--- Windows that agree on the job's events give the same levels, findings, effects, facts and slips, and the same answers to questions 15 and 16. So windows may be kept in an array.
+-- Windows and views that agree on the job's events give the same levels, findings, effects, facts and slips, and the same answers to questions 15 and 16. So windows may be kept in an array, and deliveries told by the amounts there.
 -- Assumes nothing.
 use mathlib.Core.Path.{_≡_, refl, sym, ap, ap₂, _∙_}
 use mathlib.Core.Bool.{Bool, true, false, not, cond, _&&_, _||_}
@@ -11,12 +11,12 @@ use lib.Signed.{leZ, ltZ}
 use Rattle.integers.specs.Range.{eqZ}
 use Rattle.integers.proofs.Sums.{sum-ext}
 use Rattle.integers.proofs.Tests.{true-is}
-use Rattle.model.specs.Job.{End, t-min, t-max, h-min, h-max, opposite, meets, Windows, Job, lag-a, lag-b, lag-d, events, ahead, counts-later, home}
+use Rattle.model.specs.Job.{End, t-min, t-max, h-min, h-max, opposite, meets, Windows, Job, lag-a, lag-b, lag-d, events, ahead, counts-later, home, any, in-set, consumes, produces}
 use Rattle.model.specs.Standing.{Sane, Standing}
-use Rattle.model.specs.View.{side-end, side-value, View, view, seen, view-of, shown, here}
+use Rattle.model.specs.View.{side-end, side-value, View, view, seen, view-of, shown, here, look}
 use Rattle.model.specs.Levels.{placed, place, gain, gains, most-in, most, sure-gain, sure-part, e-min, e-max, stands}
-use Rattle.model.specs.Rules.{Finding, nothing, clash, bound, given-if, counts-from, earlier, possible-producer, reached-at, earliest, targeted, Family, level, time, height, Rule, lag-upper, lag-lower, reservoir, rule, family-rule, family-end, side-finding, finding, own-end, Effect, idle, narrows, fails, effect, failed, subjects, is-narrowing}
-use Rattle.model.specs.Facts.{any, left-out, surely-consumed, late, early, cites, says, latest, quotes-top, quotes, quoted, drops, family-cites, family-says, first-late, last-early}
+use Rattle.model.specs.Rules.{Finding, nothing, clash, bound, given-if, counts-from, earlier, possible-producer, reached-at, earliest, targeted, Family, level, time, height, Rule, lag-upper, lag-lower, reservoir, rule, family-rule, family-end, side-finding, finding, own-end, Effect, idle, narrows, fails, effect, failed, subjects, is-narrowing, total, total-limit, others}
+use Rattle.model.specs.Facts.{left-out, surely-consumed, late, early, cites, says, latest, quotes-top, quotes, quoted, drops, family-cites, family-says, first-late, last-early, total-cites}
 use Rattle.model.specs.Slips.{Premise, Explanation, quote, premise-list, concluded-kind, concluded-value, explanation, premise-event, premise-end, rule-of, subject-of, target-of}
 use Rattle.model.specs.Questions.{_then_, ask}
 use Rattle.model.specs.Reader.{premises-fit, all-true, same-end, narrow, narrowed, is-conflict, as-strict, names, gives, fits-there, slip-questions}
@@ -31,8 +31,8 @@ Agree n W X = (y : ℕ) → y < n → (k : End) → W y k ≡ X y k
 pub agree-sym : (n : ℕ) (W X : Windows) → Agree n W X → Agree n X W
 agree-sym n W X a y l k = sym (a y l k)
 
-pub seen-agree : (j : Job) (m : Bool) (e n : ℕ) (W X : Windows) → Agree n W X → Agree n (seen j m e W) (seen j m e X)
-seen-agree j m e n W X a y l k = ap (λ v. shown (here j e y) k (side-value m k v)) (a y l (side-end m k))
+pub look-agree : (own : ℕ → Bool) (m : Bool) (n : ℕ) (W X : Windows) → Agree n W X → Agree n (look own m W) (look own m X)
+look-agree own m n W X a y l k = ap (λ v. shown (own y) k (side-value m k v)) (a y l (side-end m k))
 
 -- ---- levels, rules and facts
 
@@ -148,6 +148,19 @@ premise-list-agree (suc n) c d v w h g =
     ap₂ _++_ (premise-list-agree n c d v w (λ z l. h z (omega arith)) (λ z l. g z (omega arith)))
     (ap₂ _++_ (one t-min) (ap₂ _++_ (one t-max) (ap₂ _++_ (one h-min) (one h-max))))
 
+-- ---- sets
+
+others-agree : (n : ℕ) (W X : Windows) → Agree n W X → (y : ℕ) → others n W y ≡ others n X y
+unfolding others
+others-agree n W X a y =
+    sum-ext n (λ z. cond (eqb z y) (pos 0) (W z h-max)) (λ z. cond (eqb z y) (pos 0) (X z h-max)) (λ z l. ap (λ v. cond (eqb z y) (pos 0) v) (a z l h-max))
+
+total-cites-agree : (n : ℕ) (W X : Windows) → Agree n W X → (y : ℕ) (f : Bool) (z : ℕ) → z < n → (k : End) → total-cites W y f z k ≡ total-cites X y f z k
+total-cites-agree n W X a y f z l t-min = refl
+total-cites-agree n W X a y f z l t-max = refl
+total-cites-agree n W X a y f z l h-min = refl
+total-cites-agree n W X a y f z l h-max = ap (λ v. cond (eqb z y) f (consumes v || produces v)) (a z l h-max)
+
 -- ---- a job's rules and slips
 
 module _ (j : Job) (W X : Windows) (a : Agree (events j) W X) where
@@ -163,7 +176,9 @@ module _ (j : Job) (W X : Windows) (a : Agree (events j) W X) where
   finding-agree sane lag-lower g y l m = ap (λ t. bound (t -ℤ lag-d j g)) (a (lag-a j g) (sane .lag g l .real-a) t-min)
   finding-agree sane (reservoir m b f) e y l k =
       ap (side-finding m (family-end f))
-      (family-rule-agree (view j m b e) (view j m b e .before) (λ y l. refl) (seen j m e W) (seen j m e X) (seen-agree j m e (events j) W X a) l f y k)
+      (family-rule-agree (view j m b e) (view j m b e .before) (λ y l. refl) (seen j m e W) (seen j m e X) (look-agree (here j e) m (events j) W X a) l f y k)
+  finding-agree sane (total m) g y l k =
+      ap (λ v. side-finding m h-min (bound (total-limit m j g -ℤ v))) (others-agree (events j) (look (in-set j g) m W) (look (in-set j g) m X) (look-agree (in-set j g) m (events j) W X a) y)
 
   -- The effect of an attempt.
   pub outcome-agree : Sane j → (r : Rule) (e y : ℕ) → e < subjects r j → y < events j → effect (own-end r) W y (finding r j W e y) ≡ effect (own-end r) X y (finding r j X e y)
@@ -176,9 +191,11 @@ module _ (j : Job) (W X : Windows) (a : Agree (events j) W X) where
   quotes-agree lag-lower g y x l z m k = refl
   quotes-agree (reservoir o b f) e y x l z m k =
       let E = view j o b e in
-      let A = seen-agree j o e (events j) W X a in
+      let A = look-agree (here j e) o (events j) W X a in
       cites-agree E (E .before) (λ y l. refl) (seen j o e W) (seen j o e X) A (e-min E (seen j o e W)) (latest f (e-max E (seen j o e W)) x) (quotes-top f) (drops f x y) z m (side-end o k)
       ∙ ap₂ (λ u v. cites E (seen j o e X) u (latest f v x) (quotes-top f) (drops f x y) z (side-end o k)) (A e l t-min) (A e l t-max)
+  quotes-agree (total o) g y x l z m k =
+      total-cites-agree (events j) (look (in-set j g) o W) (look (in-set j g) o X) (look-agree (in-set j g) o (events j) W X a) y (failed x) z m (side-end o k)
 
   pub quoted-agree : (r : Rule) (e y : ℕ) (x : Effect) → e < subjects r j → (z : ℕ) → z < events j → (k : End) → quoted r j W e y x z k ≡ quoted r j X e y x z k
   unfolding quoted
@@ -186,10 +203,11 @@ module _ (j : Job) (W X : Windows) (a : Agree (events j) W X) where
   quoted-agree lag-lower g y x l z m k = a z m k
   quoted-agree (reservoir o b f) e y x l z m k =
       let E = view j o b e in
-      let A = seen-agree j o e (events j) W X a in
+      let A = look-agree (here j e) o (events j) W X a in
       ap (side-value o k)
       (says-agree E (E .before) (λ y l. refl) (seen j o e W) (seen j o e X) A (e-min E (seen j o e W)) (latest f (e-max E (seen j o e W)) x) z m (side-end o k)
       ∙ ap₂ (λ u v. says E (seen j o e X) u (latest f v x) z (side-end o k)) (A e l t-min) (A e l t-max))
+  quoted-agree (total o) g y x l z m k = a z m k
 
   pub premises-agree : (r : Rule) (e y : ℕ) (x : Effect) → e < subjects r j → premise-list (events j) (quotes r j W e y x) (quoted r j W e y x) ≡ premise-list (events j) (quotes r j X e y x) (quoted r j X e y x)
   premises-agree r e y x l =

@@ -78,6 +78,7 @@ apart j own c =
       cage-table = cage-words c;
       window-table = build (events j) (masked own (sent j));
       lag-table = j .lag-table;
+      set-table = j .set-table;
     }
 
 -- As a rule at e sees it: e's cage and the events in it.

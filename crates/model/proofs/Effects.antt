@@ -8,7 +8,7 @@ use lib.Dec.{T, eqb, T-not}
 use lib.IntN.{ℤ, pos, _-ℤ_}
 use Rattle.integers.proofs.Tests.{is-false}
 use Rattle.model.specs.Job.{End, t-min, t-max, h-min, h-max, opposite, meets, Windows, Job}
-use Rattle.model.specs.View.{side-value, side-end, side, View, seen, here}
+use Rattle.model.specs.View.{side-value, side-end, side, View, seen, here, look}
 use Rattle.model.specs.Levels.{Place, sure, possible, never, most, stands}
 use Rattle.model.specs.Rules.{Finding, nothing, clash, bound, given-if, side-finding, Effect, idle, narrows, fails, effect, failed, Family, level, time, height, reservoir, target-fits, targeted, family-rule, family-end}
 use Rattle.model.specs.Reader.{as-strict}
@@ -118,11 +118,11 @@ same-amount h-min = refl
 same-amount h-max = refl
 
 -- The effect of a finding, told in the windows that the rule sees.
-pub effect-seen : (j : Job) (m : Bool) (e : ℕ) (k : End) (W : Windows) (y : ℕ) (g : Finding) → Quiet (here j e y) k g → effect (side-end m k) W y (side-finding m k g) ≡ side-effect m k (effect k (seen j m e W) y g)
-effect-seen j m e k W y nothing q = refl
-effect-seen j m e k W y clash q = refl
-effect-seen j m e k W y (bound v) q =
-    let b = here j e y in
+pub effect-look : (own : ℕ → Bool) (m : Bool) (k : End) (W : Windows) (y : ℕ) (g : Finding) → Quiet (own y) k g → effect (side-end m k) W y (side-finding m k g) ≡ side-effect m k (effect k (look own m W) y g)
+effect-look own m k W y nothing q = refl
+effect-look own m k W y clash q = refl
+effect-look own m k W y (bound v) q =
+    let b = own y in
     let f = quiet-here b k v q in
     effect-side m k W y (bound v)
     ∙ ap₂ (λ u w. side-effect m k (cond (meets (opposite k) u v) (cond (meets k v w) idle (narrows v)) fails))

@@ -9,6 +9,7 @@ pub mod Words
 pub mod Table
 pub mod Premises
 pub mod Support
+pub mod Totals
 pub mod Effects
 pub mod Suffice
 pub mod Sweeps

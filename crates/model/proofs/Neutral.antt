@@ -10,11 +10,11 @@ use lib.Dec.{T, eqb}
 use lib.IntN.{ℤ, pos, _+ℤ_, _-ℤ_}
 use lib.Signed.{leZ, ltZ}
 use Rattle.integers.proofs.Sums.{sum-ext}
-use Rattle.model.specs.Job.{End, t-min, t-max, h-min, h-max, Windows, ahead}
+use Rattle.model.specs.Job.{End, t-min, t-max, h-min, h-max, Windows, ahead, any}
 use Rattle.model.specs.View.{View}
 use Rattle.model.specs.Levels.{Place, sure, possible, never, placed, place, gain, gains, most-in, most, sure-gain, sure-part, e-min, e-max, stands}
 use Rattle.model.specs.Rules.{Finding, clash, bound, given-if, counts-from, earlier, possible-producer, reached-at, earliest, targeted, Family, level, time, height, family-rule}
-use Rattle.model.specs.Facts.{any, left-out, surely-consumed, late, early, cites, says, first-late, last-early}
+use Rattle.model.specs.Facts.{left-out, surely-consumed, late, early, cites, says, first-late, last-early}
 use Rattle.model.specs.Slips.{Premise, quote, premise-list}
 use Rattle.model.proofs.Agree.{any-agree, with-before}
 

@@ -1,21 +1,22 @@
 -- What questions 1 to 11 give of a call that they let pass, and that they ask nothing of the slip buffer but its length.
 -- Assumes nothing.
 use mathlib.Core.Path.{_≡_, refl}
-use mathlib.Core.Bool.{Bool, true, false, cond, _&&_, _||_}
+use mathlib.Core.Bool.{not, Bool, true, false, cond, _&&_, _||_}
 use mathlib.Core.Logic.{_⊎_, inl, inr}
+use mathlib.Core.List.{List}
 use Prim.Native.Nat.{ℕ, zero, suc, _+_, _*_, _%_, _≤_, _<_}
 use native.Mathlib.Decide.{ℕ-discrete}
 use native.Mathlib.Omega.{arith}
-use lib.Dec.{T, eqb, leb, leb→le, le→leb, eqb→eq}
-use lib.IntN.{ℤ, pos, negsuc}
+use lib.Dec.{ltb, T-not, eqb-refl, T, eqb, leb, leb→le, le→leb, eqb→eq}
+use lib.IntN.{natAbs, ℤ, pos, negsuc}
 use lib.ListN.{length}
 use lib.Signed.{leZ, ltZ, _≤ℤ_}
-use Rattle.integers.specs.Range.{Within}
+use Rattle.integers.specs.Range.{eqZ, Within}
 use Rattle.integers.proofs.Linear.{ints}
 use Rattle.integers.proofs.Tests.{and-out, and-in, or-out}
-use Rattle.model.specs.Job.{End, t-min, t-max, h-min, h-max, meets, widest, produces, consumes, Job, lags, lag-word, events, sent, windows, cages, cage, cage-word, Reservoir}
-use Rattle.model.specs.Standing.{Sane, Standing, SaneCage, SaneLag}
-use Rattle.model.specs.Questions.{Check, pass, refuse, ask, each, in-range, is-event, times-right, heights-right, lag-events, lag-differs, lag-in-range, limit-in-range, questions, _then_, horizon-right, limits-right, stock-right, events-whole, lags-whole, room-right, own-questions, cage-questions, window-questions, lag-questions, cover-right, cages-whole, cage-right}
+use Rattle.model.specs.Job.{End, t-min, t-max, h-min, h-max, meets, widest, produces, consumes, Job, lags, lag-word, events, sent, windows, cages, cage, cage-word, Reservoir, sets, every, set-begin, set-word, member-count, member-word, begun, to-count}
+use Rattle.model.specs.Standing.{Sane, Standing, SaneCage, SaneLag, SaneSet}
+use Rattle.model.specs.Questions.{Check, pass, refuse, ask, each, in-range, is-event, times-right, heights-right, lag-events, lag-differs, lag-in-range, limit-in-range, questions, _then_, horizon-right, limits-right, stock-right, events-whole, lags-whole, room-right, own-questions, cage-questions, window-questions, lag-questions, cover-right, cages-whole, cage-right, set-whole, members-right, member-right, totals-right, total-in-range, set-questions}
 use Rattle.model.proofs.Order.{event-below}
 
 -- ---- checks
@@ -162,6 +163,9 @@ record Answers (j : Job) : Type 0 where
   q8 : (g : ℕ) → g < lags j → T (lag-events (events j) (j .lag-table) g)
   q9 : (g : ℕ) → g < lags j → T (lag-differs (j .lag-table) g)
   q10 : (g : ℕ) → g < lags j → T (lag-in-range (j .lag-table) g)
+  q31 : (g : ℕ) → g < sets j → T (set-whole (j .set-table) g)
+  q32 : (g : ℕ) → g < sets j → T (members-right (events j) (j .set-table) g)
+  q33 : (g : ℕ) → g < sets j → T (totals-right (j .set-table) g)
 
 answers : (j : Job) → own-questions j ≡ pass → Answers j
 unfolding own-questions
@@ -173,8 +177,11 @@ answers j e =
     let ws = j .lag-table in
     let n = events j in
     let m = lags j in
+    let ss = j .set-table in
+    let s = sets j in
     let g1 = then-out (cage-questions h cs) _ e in
-    let g2 = then-out (window-questions h k table) (lag-questions n ws) (g1 .1) in
+    let g2 = then-out (window-questions h k table) _ (g1 .1) in
+    let g3 = then-out (lag-questions n ws) (set-questions n ss) (g2 .1) in
     let a1 = then-out (ask 1 (horizon-right h)) _ (g1 .0) in
     let a29 = then-out (ask 29 (cages-whole cs)) _ (a1 .1) in
     let a2 = then-out (each 2 (λ c. limits-right (cage j c)) 0 k) _ (a29 .1) in
@@ -182,9 +189,11 @@ answers j e =
     let a4 = then-out (ask 4 (events-whole table)) _ (g2 .0) in
     let a5 = then-out (each 5 (times-right h (windows table)) 0 n) _ (a4 .1) in
     let a6 = then-out (each 6 (heights-right (windows table)) 0 n) (each 30 (cage-right k table) 0 n) (a5 .1) in
-    let a7 = then-out (ask 7 (lags-whole ws)) _ (g2 .1) in
+    let a7 = then-out (ask 7 (lags-whole ws)) _ (g3 .0) in
     let a8 = then-out (each 8 (lag-events n ws) 0 m) _ (a7 .1) in
     let a9 = then-out (each 9 (lag-differs ws) 0 m) (each 10 (lag-in-range ws) 0 m) (a8 .1) in
+    let a31 = then-out (each 31 (set-whole ss) 0 s) _ (g3 .1) in
+    let a32 = then-out (each 32 (members-right n ss) 0 s) (each 33 (totals-right ss) 0 s) (a31 .1) in
     record {
       q1 = ask-out 1 (horizon-right h) (a1 .0);
       q29 = ask-out 29 (cages-whole cs) (a29 .0);
@@ -199,6 +208,9 @@ answers j e =
       q8 = all-out 8 (lag-events n ws) m (a8 .0);
       q9 = all-out 9 (lag-differs ws) m (a9 .0);
       q10 = all-out 10 (lag-in-range ws) m (a9 .1);
+      q31 = all-out 31 (set-whole ss) s (a31 .0);
+      q32 = all-out 32 (members-right n ss) s (a32 .0);
+      q33 = all-out 33 (totals-right ss) s (a32 .1);
     }
 
 -- A buffer of another length in 3..1,000,000 is asked nothing more.
@@ -210,6 +222,58 @@ asked-again j room other e l m =
 
 event-sign : (n : ℕ) (w : ℤ) → T (is-event n w) → pos 0 ≤ℤ w
 event-sign n w t = record { le = and-out (leZ (pos 0) w) (ltZ w (pos n)) t .0 }
+
+-- What holds of all holds of each.
+pub every-out : (n : ℕ) (p : ℕ → Bool) → T (every n p) → (i : ℕ) → i < n → T (p i)
+unfolding every
+every-out zero p t i l = absurd (omega arith)
+every-out (suc n) p t i l = go (ℕ-discrete i n) (λ o. every-out n p (a .0) i o)
+  where
+    a : T (every n p) × T (p n)
+    a = and-out (every n p) (p n) t
+
+    go : Dec (i ≡ n) → (i < n → T (p i)) → T (p i)
+    go (yes e) rest = rw e (a .1)
+    go (no d) rest = rest (omega arith)
+
+-- Two words of events that differ are two events.
+events-differ : (n : ℕ) (v w : ℤ) → T (is-event n v) → T (is-event n w) → T (not (eqZ v w)) → natAbs v ≡ natAbs w → ⊥
+events-differ n (pos a) (pos b) s t u e = T-not (eqb a b) u (rw e (eqb-refl b))
+events-differ n (pos a) (negsuc b) s t u e = absurd t
+events-differ n (negsuc a) (pos b) s t u e = absurd s
+events-differ n (negsuc a) (negsuc b) s t u e = absurd s
+
+-- At most k sets of k begin.
+begun-most : (ws : List ℤ) (k : ℕ) → begun ws k ≤ k
+unfolding begun
+begun-most ws zero = omega arith
+begun-most ws (suc k) = go (ltb (set-begin ws k) (length ws)) (begun-most ws k)
+  where
+    go : (b : Bool) → begun ws k ≤ k → cond b (suc k) (begun ws k) ≤ suc k
+    go true h = omega arith
+    go false h = omega arith
+
+count-some : (w : ℤ) → T (leZ (pos 1) w) → 1 ≤ to-count w
+count-some (pos n) t = leb→le 1 n t
+count-some (negsuc n) t = absurd t
+
+sane-set : (n : ℕ) (ws : List ℤ) (g : ℕ) → T (set-whole ws g) → T (members-right n ws g) → T (totals-right ws g) → SaneSet n ws g
+sane-set n ws g whole members totals =
+    let some = and-out (leZ (pos 1) (set-word ws g 2)) (every (member-count ws g) (member-right n ws g)) members in
+    let range = and-out (total-in-range (set-word ws g 0) && total-in-range (set-word ws g 1)) (leZ (set-word ws g 0) (set-word ws g 1)) totals in
+    let both = and-out (total-in-range (set-word ws g 0)) (total-in-range (set-word ws g 1)) (range .0) in
+    let apart : (i : ℕ) → ℕ → Bool = λ i k. not (eqZ (member-word ws g k) (member-word ws g i)) in
+    let one : (i : ℕ) → i < member-count ws g → T (is-event n (member-word ws g i)) × T (every i (apart i)) = λ i l.
+    and-out (is-event n (member-word ws g i)) (every i (apart i)) (every-out (member-count ws g) (member-right n ws g) (some .1) i l) in
+    record {
+      inside = leb→le (set-begin ws (suc g)) (length ws) (and-out (ltb g 16) (leb (set-begin ws (suc g)) (length ws)) whole .1);
+      some-member = count-some (set-word ws g 2) (some .0);
+      member-sign = λ i l. event-sign n (member-word ws g i) (one i l .0);
+      member-real = λ i l. event-below n (member-word ws g i) (one i l .0);
+      member-distinct = λ i k l o. events-differ n (member-word ws g k) (member-word ws g i) (one k (omega arith) .0) (one i l .0) (every-out i (apart i) (one i l .1) k o);
+      least-range = around 639935 (set-word ws g 0) (both .0);
+      most-range = around 639935 (set-word ws g 1) (both .1);
+    }
 
 sane-cage : (c : Reservoir) → T (limits-right c) → SaneCage c
 sane-cage c t =
@@ -235,6 +299,13 @@ module _ (j : Job) where
         gap-range = around 19999 (lag-word ws g 2) (a .q10 g l);
       }
 
+  few-of : Answers j → sets j ≤ 16
+  few-of a = go (ℕ-discrete (sets j) 17)
+    where
+      go : Dec (sets j ≡ 17) → sets j ≤ 16
+      go (yes e) = absurd (and-out (ltb 16 16) (leb (set-begin (j .set-table) 17) (length (j .set-table))) (a .q31 16 (omega arith)) .0)
+      go (no d) = omega (arith, begun-most (j .set-table) 17)
+
   sane-of : Answers j → Sane j
   sane-of a =
       let t1 = in-range-out (pos 0) (pos 20000) (j .horizon) (a .q1) in
@@ -256,6 +327,8 @@ module _ (j : Job) where
         few-events = omega arith;
         few-lags = omega arith;
         lag = lag-of a;
+        few-sets = few-of a;
+        set-sane = λ g l. sane-set (events j) (j .set-table) g (a .q31 g l) (a .q32 g l) (a .q33 g l);
       }
 
   times-of : Answers j → (y : ℕ) → y < events j → (pos 0 ≤ℤ sent j y t-min) × (sent j y t-min ≤ℤ sent j y t-max) × (sent j y t-max ≤ℤ j .horizon)

@@ -1,15 +1,15 @@
 -- What a rule sees: the mirror turns bounds, windows and signs, and twice is nothing; windows seen in a view stand to one another as those that they show. So what is proved of views is proved of rules 3 to 14.
 -- Assumes nothing.
-use mathlib.Core.Path.{_≡_, refl, sym, subst, _∙_}
-use mathlib.Core.Bool.{Bool, true, false, cond}
+use mathlib.Core.Path.{_≡_, refl, sym, subst}
+use mathlib.Core.Bool.{Bool, true, false, cond, _&&_, _||_}
 use Prim.Native.Nat.{ℕ, _<_}
 use lib.Dec.{T}
 use lib.IntN.{ℤ, negℤ, negℤ-negℤ, pos, _+ℤ_}
 use lib.Signed.{leZ, _≤ℤ_, _<ℤ_}
 use Rattle.integers.proofs.Linear.{ints, neg-law}
 use Rattle.integers.proofs.Tests.{same-test}
-use Rattle.model.specs.Job.{End, t-min, t-max, h-min, h-max, meets, Windows, Job, Schedule, value, Inside, produces, consumes}
-use Rattle.model.specs.View.{side-value, side-end, side, seen, here, shown}
+use Rattle.model.specs.Job.{End, t-min, t-max, h-min, h-max, meets, Windows, Schedule, value, Inside, produces, consumes}
+use Rattle.model.specs.View.{side-value, side-end, side, shown, look}
 use Rattle.model.proofs.Levels.{Signed}
 
 -- ---- tests turn
@@ -65,7 +65,7 @@ side-signed true {n} {W} s =
 
 -- ---- another cage's events shown as neutral
 
-shown-meets : (b : Bool) (k : End) (v x : ℤ) → T (meets k v x) → T (meets k (shown b k v) (shown b k x))
+pub shown-meets : (b : Bool) (k : End) (v x : ℤ) → T (meets k v x) → T (meets k (shown b k v) (shown b k x))
 shown-meets b t-min v x t = t
 shown-meets b t-max v x t = t
 shown-meets true h-min v x t = t
@@ -92,25 +92,25 @@ shown-is false h-max v f = absurd (f tt)
 -- ---- what a rule sees
 
 -- The windows seen in a view: inside, filled and signed as those that they show.
-module _ (j : Job) (m : Bool) (e : ℕ) where
-  pub seen-inside : {n : ℕ} {W x : Windows} → Inside n W x → Inside n (seen j m e W) (seen j m e x)
-  seen-inside {n} {W} {x} i = record { inside = λ y l k. shown-meets (here j e y) k (side m W y k) (side m x y k) (side-inside m i .inside y l k) }
+module _ (own : ℕ → Bool) (m : Bool) where
+  pub look-inside : {n : ℕ} {W x : Windows} → Inside n W x → Inside n (look own m W) (look own m x)
+  look-inside {n} {W} {x} i = record { inside = λ y l k. shown-meets (own y) k (side m W y k) (side m x y k) (side-inside m i .inside y l k) }
 
-  pub seen-times : (n : ℕ) (W : Windows) → ((y : ℕ) → y < n → W y t-min ≤ℤ W y t-max) → (y : ℕ) → y < n → seen j m e W y t-min ≤ℤ seen j m e W y t-max
-  seen-times n W h = side-times m n W h
+  pub look-times : (n : ℕ) (W : Windows) → ((y : ℕ) → y < n → W y t-min ≤ℤ W y t-max) → (y : ℕ) → y < n → look own m W y t-min ≤ℤ look own m W y t-max
+  look-times n W h = side-times m n W h
 
-  pub seen-heights : (n : ℕ) (W : Windows) → ((y : ℕ) → y < n → W y h-min ≤ℤ W y h-max) → (y : ℕ) → y < n → seen j m e W y h-min ≤ℤ seen j m e W y h-max
-  seen-heights n W h y l = go (here j e y) (side-heights m n W h y l)
+  pub look-heights : (n : ℕ) (W : Windows) → ((y : ℕ) → y < n → W y h-min ≤ℤ W y h-max) → (y : ℕ) → y < n → look own m W y h-min ≤ℤ look own m W y h-max
+  look-heights n W h y l = go (own y) (side-heights m n W h y l)
     where
       go : (b : Bool) → side m W y h-min ≤ℤ side m W y h-max → cond b (side m W y h-min) (pos 0) ≤ℤ cond b (side m W y h-max) (pos 0)
       go true o = o
       go false o = omega ints
 
-  pub seen-signed : {n : ℕ} {W : Windows} → Signed n W → Signed n (seen j m e W)
-  seen-signed {n} {W} s =
+  pub look-signed : {n : ℕ} {W : Windows} → Signed n W → Signed n (look own m W)
+  look-signed {n} {W} s =
       record {
-        producers = λ y l. made (here j e y) (side m W y h-max) (side m W y h-min) (side-signed m s .producers y l);
-        consumers = λ y l. used (here j e y) (side m W y h-max) (side m W y h-min) (side-signed m s .consumers y l);
+        producers = λ y l. made (own y) (side m W y h-max) (side m W y h-min) (side-signed m s .producers y l);
+        consumers = λ y l. used (own y) (side m W y h-max) (side m W y h-min) (side-signed m s .consumers y l);
       }
     where
       made : (b : Bool) (high low : ℤ) → (T (produces high) → pos 0 <ℤ low) → T (produces (cond b high (pos 0))) → pos 0 <ℤ cond b low (pos 0)
@@ -126,6 +126,6 @@ pub record Point (x : Windows) : Type 0 where
   pub one-time : (y : ℕ) → x y t-max ≡ x y t-min
   pub one-height : (y : ℕ) → x y h-min ≡ x y h-max
 
-pub seen-point : (j : Job) (m : Bool) (e : ℕ) (p : Schedule) → Point (seen j m e (value p))
-seen-point j false e p = record { one-time = λ y. refl; one-height = λ y. refl }
-seen-point j true e p = record { one-time = λ y. refl; one-height = λ y. refl }
+pub look-point : (own : ℕ → Bool) (m : Bool) (p : Schedule) → Point (look own m (value p))
+look-point own false p = record { one-time = λ y. refl; one-height = λ y. refl }
+look-point own true p = record { one-time = λ y. refl; one-height = λ y. refl }

@@ -21,7 +21,7 @@ use Rattle.model.specs.Rounds.{State, Status, running, ended, acted, att
 use Rattle.model.proofs.Levels.{most-later}
 use Rattle.model.proofs.Time.{Timed, timed, no-earlier}
 use Rattle.model.proofs.Table.{store, slot-inside, windows-set}
-use Rattle.model.proofs.Effects.{side-effect, effect-seen, family-quiet}
+use Rattle.model.proofs.Effects.{side-effect, effect-look, family-quiet}
 use Rattle.model.proofs.Sweeps.{each-append, each-of-all, Step, same, stops, narrowed, failing, attempt-step}
 
 -- ---- attempts that do nothing
@@ -79,7 +79,7 @@ pub seen-idle : (m b : Bool) (f : Family) (j : Job) (W : Windows) (e y : ℕ)
     → effect (family-end f) (seen j m e W) y (family-rule f (view j m b e) (seen j m e W) y) ≡ idle → Idle (reservoir m b f) j W e y
 unfolding finding
 seen-idle m b f j W e y h =
-    effect-seen j m e (family-end f) W y (family-rule f (view j m b e) (seen j m e W) y) (family-quiet j m e (view j m b e) W y f)
+    effect-look (here j e) m (family-end f) W y (family-rule f (view j m b e) (seen j m e W) y) (family-quiet j m e (view j m b e) W y f)
     ∙ ap (side-effect m (family-end f)) h
 
 -- ---- what a level tells of the rules

@@ -4,7 +4,7 @@
 use mathlib.Core.Path.{_≡_, refl, sym, ap, subst, _∙_}
 use mathlib.Core.Bool.{Bool, true, false, not, cond, _&&_}
 use Prim.Native.Nat.{ℕ, _<_}
-use lib.Dec.{T, eqb, eqb→eq}
+use lib.Dec.{T, eqb, eqb→eq, T-not}
 use lib.IntN.{ℤ, pos, negℤ, negℤ-+ℤ, _+ℤ_, _-ℤ_}
 use lib.Signed.{leZ, ltZ, _≤ℤ_, _<ℤ_}
 use Rattle.integers.specs.Sum.{sum}
@@ -12,18 +12,19 @@ use Rattle.integers.proofs.Linear.{ints, add-law, sub-law, neg-law}
 use Rattle.integers.proofs.Sums.{sum-ext, sum-neg, sum-le, sum-le-but}
 use Rattle.integers.specs.Range.{eqZ}
 use Rattle.integers.proofs.Tests.{same-test, true-is}
-use Rattle.model.specs.Job.{End, t-min, t-max, h-min, h-max, opposite, meets, Windows, Job, Schedule, value, Inside, stock, Legal, lag-a, lag-b, lag-d, events, ahead, counts-later, produces, widest, home, cage, cages, cage-of, brings}
+use Rattle.model.specs.Job.{End, t-min, t-max, h-min, h-max, opposite, meets, Windows, Job, Schedule, value, Inside, stock, Legal, lag-a, lag-b, lag-d, events, ahead, counts-later, produces, widest, home, cage, cages, cage-of, brings, in-set}
 use Rattle.model.specs.Standing.{Sane}
-use Rattle.model.specs.View.{side-end, View, view, seen, side-value, side-limit, here, side}
+use Rattle.model.specs.View.{side-end, View, view, seen, side-value, side-limit, here, side, look}
 use Rattle.model.specs.Levels.{placed, place, gain, gains, most-in, most, e-min, e-max, stands}
-use Rattle.model.specs.Rules.{Finding, nothing, clash, bound, given-if, time-rule, targeted, Family, level, time, height, Rule, lag-upper, lag-lower, reservoir, family-rule, family-end, side-finding, finding, own-end, Effect, idle, narrows, fails, effect, failed, subjects, target-fits}
+use Rattle.model.specs.Rules.{Finding, nothing, clash, bound, given-if, time-rule, targeted, Family, level, time, height, Rule, lag-upper, lag-lower, reservoir, family-rule, family-end, side-finding, finding, own-end, Effect, idle, narrows, fails, effect, failed, subjects, target-fits, total, total-limit, total-rule, others}
 use Rattle.model.specs.Slips.{Explanation, rule-of, subject-of, target-of}
 use Rattle.model.specs.Questions.{is-event}
 use Rattle.model.specs.Reader.{kind-fits, premises-fit, names, all-true, narrowed, is-conflict, as-strict, gives}
+use Rattle.model.proofs.Totals.{others-bound, total-low}
 use Rattle.model.proofs.Effects.{aims, fits-aims, across, Quiet, quiet-here, family-quiet}
 use Rattle.model.proofs.Order.{meets-trans, opposite-meets, event-below, narrowed-in, inside-narrowed, inside-trans}
 use Rattle.model.proofs.Levels.{not-lt, ahead-self, Wider, place-weaker, gains-weaker, most-weaker, target-gain, target-adds, Signed, signed-within, add-le, kind-kept}
-use Rattle.model.proofs.Sides.{Point, seen-point, seen-inside, seen-signed, shown-is}
+use Rattle.model.proofs.Sides.{Point, look-point, look-inside, look-signed, shown-is}
 use Rattle.model.proofs.Time.{Waits, Timed, timed}
 
 -- ---- the stock before or by a moment
@@ -220,11 +221,18 @@ module _ (E : View) (W : Windows) {x : Windows} (point : Point x) (i : Inside (E
 
 -- ---- all rules
 
-holds-seen : (j : Job) (m : Bool) (e : ℕ) (k : End) (x : Windows) (y : ℕ) (g : Finding) → Quiet (here j e y) k g → Holds (seen j m e x) k y g → Holds x (side-end m k) y (side-finding m k g)
-holds-seen j m e k x y nothing q h = tt
-holds-seen j m e k x y clash q h = h
-holds-seen j m e k x y (bound v) q h =
-    subst T (sym (across m k v (x y (side-end m k)))) (subst (λ z. T (meets k v z)) (shown-is (here j e y) k (side m x y k) (quiet-here (here j e y) k v q)) h)
+holds-look : (own : ℕ → Bool) (m : Bool) (k : End) (x : Windows) (y : ℕ) (g : Finding) → Quiet (own y) k g → Holds (look own m x) k y g → Holds x (side-end m k) y (side-finding m k g)
+holds-look own m k x y nothing q h = tt
+holds-look own m k x y clash q h = h
+holds-look own m k x y (bound v) q h =
+    subst T (sym (across m k v (x y (side-end m k)))) (subst (λ z. T (meets k v z)) (shown-is (own y) k (side m x y k) (quiet-here (own y) k v q)) h)
+
+-- Rules 17 and 18: a member of a set whose sum keeps its limit.
+total-sound : (limit : ℤ) (n : ℕ) {W x : Windows} → Point x → Inside n W x → limit ≤ℤ sum n (λ z. x z h-max) → (y : ℕ) → y < n → Holds x h-min y (total-rule limit n W y)
+total-sound limit n {W} {x} point i low y l =
+    let a = others-bound n i y l in
+    let b = point .one-height y in
+    omega (ints, add-law (others n W y) (x y h-max), neg-law (others n W y))
 
 -- What a rule gives on windows holds of every legal schedule in them. (Where a window had two signs, rules 5 and 11 would not be sound, and cover would not tell deliveries: hence inside the widest.)
 pub finding-sound : (r : Rule) (j : Job) (W : Windows) (p : Schedule) (e y : ℕ) → Sane j → Inside (events j) (widest j) W → Legal j W p → e < subjects r j → y < events j → T (target-fits r j e y) → Holds (value p) (own-end r) y (finding r j W e y)
@@ -240,8 +248,12 @@ finding-sound lag-lower j W p g y sane signs h l m t =
     let d : T (leZ (W (lag-a j g) t-min -ℤ lag-d j g) (p .time (lag-b j g))) = omega (ints, neg-law (lag-d j g), neg-law (p .time (lag-b j g))) in
     rw (eqb→eq y (lag-b j g) t) d
 finding-sound (reservoir m b f) j W p e y sane signs h l k t =
-    holds-seen j m e (family-end f) (value p) y (family-rule f (view j m b e) (seen j m e W) y) (family-quiet j m e (view j m b e) W y f)
-    (family-sound (view j m b e) (seen j m e W) (seen-point j m e p) (seen-inside j m e (h .within)) (legal-low m b e (sane .cage-real e l) (inside-trans signs (h .within)) h) l (seen-signed j m e (signed-within signs)) f y k (fits-aims m b f j e y t))
+    holds-look (here j e) m (family-end f) (value p) y (family-rule f (view j m b e) (seen j m e W) y) (family-quiet j m e (view j m b e) W y f)
+    (family-sound (view j m b e) (seen j m e W) (look-point (here j e) m p) (look-inside (here j e) m (h .within)) (legal-low m b e (sane .cage-real e l) (inside-trans signs (h .within)) h) l (look-signed (here j e) m (signed-within signs)) f y k (fits-aims m b f j e y t))
+finding-sound (total m) j W p g y sane signs h l k t =
+    let own = in-set j g in
+    holds-look own m h-min (value p) y (total-rule (total-limit m j g) (events j) (look own m W) y) (λ a n. absurd (T-not (own y) n t))
+    (total-sound (total-limit m j g) (events j) (look-point own m p) (look-inside own m (h .within)) (total-low m h g l) y k)
 
 -- ---- effects
 
@@ -343,7 +355,7 @@ gives-sound j X p x sane signs h n t = go (is-conflict x) t
 
 -- A legal schedule is legal in all windows that it lies in.
 pub legal-in : {j : Job} {W X : Windows} {p : Schedule} → Legal j W p → Inside (events j) X (value p) → Legal j X p
-legal-in h i = record { within = i; lagged = h .lagged; above-min = h .above-min; below-max = h .below-max }
+legal-in h i = record { within = i; lagged = h .lagged; least-kept = h .least-kept; most-kept = h .most-kept; above-min = h .above-min; below-max = h .below-max }
 
 -- A slip stands alone: every schedule that is legal in windows, and has its facts, has its conclusion if its rule gives it on the windows narrowed by these facts.
 pub stands-alone : (j : Job) (W : Windows) (p : Schedule) (x : Explanation) → Sane j → Inside (events j) (widest j) W → Legal j W p → T (names j x) → T (all-true (value p) (x .premises)) → T (gives j (narrowed W (x .premises)) x) → Concludes p x

@@ -1,31 +1,32 @@
 -- Facts suffice: a slip that the planner writes on standing windows passes questions 14, 15 and 16. Its facts are true there, and the rule gives the same or more on the widest windows narrowed by them.
 -- Assumes nothing.
 use mathlib.Core.Path.{_≡_, refl, sym, ap, subst, _∙_}
-use mathlib.Core.Bool.{Bool, true, false, not, _&&_}
-use Prim.Native.Nat.{ℕ, _<_}
+use mathlib.Core.Bool.{Bool, true, false, not, _&&_, cond}
+use Prim.Native.Nat.{ℕ, _<_, _≤_}
 use native.Mathlib.Omega.{arith}
-use lib.Dec.{T, eqb, eqb→eq, eqb-refl, not-T}
+use lib.Dec.{T, eqb, eqb→eq, eqb-refl, not-T, T-not}
 use lib.IntN.{ℤ, pos, negℤ, _+ℤ_, _-ℤ_}
 use lib.Signed.{leZ, ltZ, _<ℤ_}
 use Rattle.integers.specs.Range.{eqZ}
-use Rattle.integers.proofs.Linear.{ints, add-law}
+use Rattle.integers.proofs.Linear.{ints, add-law, sub-law, neg-law}
 use Rattle.integers.proofs.Tests.{is-true, is-false, and-out, and-in}
-use Rattle.model.specs.Job.{End, t-min, t-max, h-min, h-max, opposite, meets, Windows, widest, Job, lags, lag-a, lag-b, lag-d, events}
+use Rattle.model.specs.Job.{End, t-min, t-max, h-min, h-max, opposite, meets, Windows, widest, Job, lags, lag-a, lag-b, lag-d, events, in-set}
 use Rattle.model.specs.Standing.{Sane, Standing}
-use Rattle.model.specs.View.{side-value, side-end, side, View, view, seen, here}
+use Rattle.model.specs.View.{side-value, side-end, side, View, view, seen, here, look}
 use Rattle.model.specs.Levels.{most, e-min, e-max, stands, place}
-use Rattle.model.specs.Rules.{Finding, clash, bound, given-if, time-rule, targeted, Family, level, time, height, Rule, lag-upper, lag-lower, reservoir, rule, family-rule, family-end, side-finding, finding, own-end, Effect, idle, narrows, fails, effect, failed, subjects, target-fits}
-use Rattle.model.specs.Facts.{cites, says, latest, quotes-top, family-cites, family-says, lag-cites, quotes, quoted, drops}
+use Rattle.model.specs.Rules.{Finding, clash, bound, given-if, time-rule, targeted, Family, level, time, height, Rule, lag-upper, lag-lower, reservoir, rule, family-rule, family-end, side-finding, finding, own-end, Effect, idle, narrows, fails, effect, failed, subjects, target-fits, total, total-limit, total-rule, others}
+use Rattle.model.specs.Facts.{cites, says, latest, quotes-top, family-cites, family-says, lag-cites, quotes, quoted, drops, total-cites}
 use Rattle.model.specs.Slips.{number, premise-list, concluded-kind, concluded-value, explanation}
 use Rattle.model.specs.Agenda.{Valid}
 use Rattle.model.specs.Questions.{is-event}
 use Rattle.model.specs.Reader.{has-bound, kind-fits, premises-fit, names, all-true, narrowed, as-strict, gives}
+use Rattle.model.proofs.Totals.{others-backed, total-kept}
 use Rattle.model.proofs.Order.{meets-refl, meets-trans, opposite-meets, narrowed-in, inside-narrowed, narrowed-true}
 use Rattle.model.proofs.Levels.{most-weaker, signed-within}
 use Rattle.model.proofs.Time.{time-waits, waits-most, below-time, time-never-fails}
-use Rattle.model.proofs.Sides.{seen-inside, seen-times, seen-heights, seen-signed, amount, shown-is}
+use Rattle.model.proofs.Sides.{look-inside, look-times, look-heights, look-signed, amount, shown-is}
 use Rattle.model.proofs.Table.{narrows-bound}
-use Rattle.model.proofs.Effects.{fails-past, past-fails, effect-given, across, side-effect, failed-side, strict-side, aims, fits-aims, Quiet, family-quiet, target-here, effect-seen}
+use Rattle.model.proofs.Effects.{fails-past, past-fails, effect-given, across, side-effect, failed-side, strict-side, aims, fits-aims, Quiet, family-quiet, target-here, effect-look}
 use Rattle.model.proofs.Premises.{Keeps, list-fits, list-true, true-list, event-fits}
 use Rattle.model.proofs.Support.{Opened, Grounds, cites-true, amount-kept, most-backed, opened-wider, targets-backed, needs-backed}
 
@@ -126,17 +127,17 @@ cited-here f j m E W e y x z h-max t a =
     target-here p (here j e z) (side m W z h-max) (and-out (not (drops f x y z)) (targeted p (seen j m e W z h-max)) t .1)
 
 -- Ends quoted, of windows and as they are seen.
-module _ (j : Job) (m : Bool) (e n : ℕ) (c : ℕ → End → Bool) (v : ℕ → End → ℤ) (x : Windows) (own : (z : ℕ) (k : End) → T (c z k) → T (amount k) → T (here j e z)) where
-  seen-in : Keeps n (λ z k. c z (side-end m k)) (λ z k. side-value m k (v z (side-end m k))) x → Keeps n c v (seen j m e x)
-  seen-in h y l k t = rw (shown-is (here j e y) k (side m x y k) (own y k t)) (keeps-in n c v x m h y l k t)
+module _ (own : ℕ → Bool) (m : Bool) (n : ℕ) (c : ℕ → End → Bool) (v : ℕ → End → ℤ) (x : Windows) (cited : (z : ℕ) (k : End) → T (c z k) → T (amount k) → T (own z)) where
+  look-in : Keeps n (λ z k. c z (side-end m k)) (λ z k. side-value m k (v z (side-end m k))) x → Keeps n c v (look own m x)
+  look-in h y l k t = rw (shown-is (own y) k (side m x y k) (cited y k t)) (keeps-in n c v x m h y l k t)
 
-  seen-out : Keeps n c v (seen j m e x) → Keeps n (λ z k. c z (side-end m k)) (λ z k. side-value m k (v z (side-end m k))) x
-  seen-out h = keeps-out n c v x m (λ y l k t. rw (shown-is (here j e y) k (side m x y k) (own y k t)) at (h y l k t))
+  look-out : Keeps n c v (look own m x) → Keeps n (λ z k. c z (side-end m k)) (λ z k. side-value m k (v z (side-end m k))) x
+  look-out h = keeps-out n c v x m (λ y l k t. rw (shown-is (own y) k (side m x y k) (cited y k t)) at (h y l k t))
 
-agrees-seen : (j : Job) (m : Bool) (e : ℕ) (k : End) (X : Windows) (y : ℕ) (x : Effect) (f : Finding) → Quiet (here j e y) k f → agrees (side-end m k) X y (side-effect m k x) (side-finding m k f) ≡ agrees k (seen j m e X) y x f
-agrees-seen j m e k X y idle f q = refl
-agrees-seen j m e k X y (narrows v) f q = strict-side m k v f
-agrees-seen j m e k X y fails f q = ap failed (effect-seen j m e k X y f q) ∙ failed-side m k (effect k (seen j m e X) y f)
+agrees-look : (own : ℕ → Bool) (m : Bool) (k : End) (X : Windows) (y : ℕ) (x : Effect) (f : Finding) → Quiet (own y) k f → agrees (side-end m k) X y (side-effect m k x) (side-finding m k f) ≡ agrees k (look own m X) y x f
+agrees-look own m k X y idle f q = refl
+agrees-look own m k X y (narrows v) f q = strict-side m k v f
+agrees-look own m k X y fails f q = ap failed (effect-look own m k X y f q) ∙ failed-side m k (effect k (look own m X) y f)
 
 -- What is quoted does not depend on the side that the effect is told on.
 latest-side : (f : Family) (m : Bool) (t : ℤ) (x : Effect) → latest f t (side-effect m (family-end f) x) ≡ latest f t x
@@ -161,13 +162,13 @@ quoted-side f m E W X y x h =
     subst (λ d. Keeps (E .events) (cites E W (e-min E W) (latest f (e-max E W) x) (quotes-top f) d) (says E W (e-min E W) (latest f (e-max E W) x)) X) (drops-side f m x y)
     (subst (λ t. Keeps (E .events) (cites E W (e-min E W) t (quotes-top f) (drops f (side-effect m (family-end f) x) y)) (says E W (e-min E W) t) X) (latest-side f m (e-max E W) x) h)
 
-seen-opened : (j : Job) (m : Bool) (e : ℕ) {n : ℕ} {W X : Windows} → Opened n W X → Opened n (seen j m e W) (seen j m e X)
-seen-opened j m e {n} {W} o =
+look-opened : (own : ℕ → Bool) (m : Bool) {n : ℕ} {W X : Windows} → Opened n W X → Opened n (look own m W) (look own m X)
+look-opened own m {n} {W} o =
     record {
-      wider = seen-inside j m e (o .wider);
-      times = seen-times j m e n W (o .times);
-      heights = seen-heights j m e n W (o .heights);
-      signs = seen-signed j m e (o .signs);
+      wider = look-inside own m (o .wider);
+      times = look-times own m n W (o .times);
+      heights = look-heights own m n W (o .heights);
+      signs = look-signed own m (o .signs);
     }
 
 -- Rules 3 to 14: a family in a view.
@@ -184,11 +185,11 @@ module _ (j : Job) (m w : Bool) (f : Family) {W X : Windows} (o : Opened (events
       let t = family-end f in
       let g = family-rule f E (seen j m e W) y in
       let z = effect t (seen j m e W) y g in
-      let p : x ≡ side-effect m t z = q ∙ effect-seen j m e t W y g (family-quiet j m e E W y f) in
-      let h = subst (λ x. Keeps (events j) (family-cites f E (seen j m e W) y x) (family-says f E (seen j m e W) x) (seen j m e X)) p (seen-in j m e (events j) (family-cites f E (seen j m e W) y x) (family-says f E (seen j m e W) x) X (cited-here f j m E W e y x) k) in
-      let a = family-agrees E (seen-opened j m e o) l y b f z d refl (λ r. i (p ∙ ap (side-effect m t) r)) (quoted-side f m E (seen j m e W) (seen j m e X) y z h) in
+      let p : x ≡ side-effect m t z = q ∙ effect-look (here j e) m t W y g (family-quiet j m e E W y f) in
+      let h = subst (λ x. Keeps (events j) (family-cites f E (seen j m e W) y x) (family-says f E (seen j m e W) x) (seen j m e X)) p (look-in (here j e) m (events j) (family-cites f E (seen j m e W) y x) (family-says f E (seen j m e W) x) X (cited-here f j m E W e y x) k) in
+      let a = family-agrees E (look-opened (here j e) m o) l y b f z d refl (λ r. i (p ∙ ap (side-effect m t) r)) (quoted-side f m E (seen j m e W) (seen j m e X) y z h) in
       subst (λ x. T (agrees (side-end m t) X y x (side-finding m t (family-rule f E (seen j m e X) y)))) (sym p)
-      (subst T (sym (agrees-seen j m e t X y z (family-rule f E (seen j m e X) y) (family-quiet j m e E X y f))) a)
+      (subst T (sym (agrees-look (here j e) m t X y z (family-rule f E (seen j m e X) y) (family-quiet j m e E X y f))) a)
 
 -- ---- lags
 
@@ -206,6 +207,35 @@ later-by a b d t = omega (ints, add-law a d, add-law b d)
 earlier-by : (a b d : ℤ) → T (leZ a b) → T (leZ (a -ℤ d) (b -ℤ d))
 earlier-by a b d t = later-by a b (negℤ d) t
 
+-- ---- sets
+
+failed-is : (x : Effect) → x ≡ fails → T (failed x)
+failed-is x e = rw e tt
+
+cites-own : (q f c : Bool) → T q → T f → T (cond q f c)
+cites-own true f c q t = t
+cites-own false f c q t = absurd q
+
+-- Rules 17 and 18, on windows that show a set's members only.
+module _ (own : ℕ → Bool) (m : Bool) (limit : ℤ) (n : ℕ) {W X : Windows} (o : Opened n W X) (y : ℕ) (b : y < n) (d : T (own y)) where
+  total-agrees : (x : Effect) →
+      x ≡ effect (side-end m h-min) W y (side-finding m h-min (total-rule limit n (look own m W) y)) →
+      (x ≡ idle → ⊥) →
+      Keeps n (λ z k. total-cites (look own m W) y (failed x) z (side-end m k)) W X →
+      T (agrees (side-end m h-min) X y x (side-finding m h-min (total-rule limit n (look own m X) y)))
+  total-agrees x q i k =
+      let g = total-rule limit n (look own m W) y in
+      let z = effect h-min (look own m W) y g in
+      let quiet : (v : ℤ) → Quiet (own y) h-min (bound v) = λ v a n. absurd (T-not (own y) n d) in
+      let p : x ≡ side-effect m h-min z = q ∙ effect-look own m h-min W y g (quiet _) in
+      let kept = total-kept own m n W X y (failed x) k in
+      let less = others-backed n (look-opened own m o) y (failed x) kept in
+      let strict : T (leZ (limit -ℤ others n (look own m W) y) (limit -ℤ others n (look own m X) y)) = omega (ints, sub-law limit (others n (look own m X) y), neg-law (others n (look own m W) y)) in
+      let a = bound-agrees h-min (look own m W) (look own m X) y (limit -ℤ others n (look own m W) y) (limit -ℤ others n (look own m X) y) z strict
+      (λ e. kept y b (cites-own (eqb y y) (failed x) _ (eqb-refl y) (failed-is x (p ∙ ap (side-effect m h-min) e))) .le) refl (λ r. i (p ∙ ap (side-effect m h-min) r)) in
+      subst (λ x. T (agrees (side-end m h-min) X y x (side-finding m h-min (total-rule limit n (look own m X) y)))) (sym p)
+      (subst T (sym (agrees-look own m h-min X y z (total-rule limit n (look own m X) y) (quiet _))) a)
+
 -- ---- all rules
 
 -- Question 15.
@@ -213,8 +243,9 @@ rule-true : (r : Rule) (j : Job) (W : Windows) (e y : ℕ) (x : Effect) → Keep
 unfolding quotes quoted
 rule-true lag-upper j W e y x = λ z l k t. meets-refl k (W z k)
 rule-true lag-lower j W e y x = λ z l k t. meets-refl k (W z k)
+rule-true (total m) j W e y x = λ z l k t. meets-refl k (W z k)
 rule-true (reservoir m b f) j W e y x =
-    seen-out j m e (events j) (family-cites f (view j m b e) (seen j m e W) y x) (family-says f (view j m b e) (seen j m e W) x) W (cited-here f j m (view j m b e) W e y x) (family-true f (view j m b e) (seen j m e W) y x)
+    look-out (here j e) m (events j) (family-cites f (view j m b e) (seen j m e W) y x) (family-says f (view j m b e) (seen j m e W) x) W (cited-here f j m (view j m b e) W e y x) (family-true f (view j m b e) (seen j m e W) y x)
 
 -- Question 16.
 rule-agrees : (r : Rule) (j : Job) (W X : Windows) (e y : ℕ) (x : Effect) → Sane j → Opened (events j) W X → e < subjects r j → y < events j → T (target-fits r j e y) →
@@ -236,6 +267,8 @@ rule-agrees lag-lower j W X e y x sane o l b d q i k =
     i
 rule-agrees (reservoir m w f) j W X e y x sane o l b d q i k =
     seen-agrees j m w f o e l y b (fits-aims m w f j e y d) x q i k
+rule-agrees (total m) j W X g y x sane o l b d q i k =
+    total-agrees (in-set j g) m (total-limit m j g) (events j) o y b d x q i k
 
 -- ---- the slip
 
@@ -259,6 +292,7 @@ bound-fits (reservoir m b level) j W e y v q =
     level-unbound m (ltZ (most (view j m b e) (seen j m e W)) (view j m b e .limit)) v q
 bound-fits (reservoir m b time) j W e y v q = tt
 bound-fits (reservoir m b height) j W e y v q = tt
+bound-fits (total m) j W e y v q = tt
 
 -- Question 14 of the kind.
 kind-concluded : (r : Rule) (j : Job) (W : Windows) (e y : ℕ) (x : Effect) → x ≡ effect (own-end r) W y (finding r j W e y) → T (kind-fits r (pos (concluded-kind r x)) (concluded-value x))

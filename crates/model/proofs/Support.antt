@@ -12,11 +12,11 @@ use Rattle.integers.specs.Sum.{sum}
 use Rattle.integers.proofs.Linear.{ints, add-law, sub-law}
 use Rattle.integers.proofs.Sums.{sum-le, sum-le-but}
 use Rattle.integers.proofs.Tests.{decide, true-is, and-out, and-in, or-left, or-right, or-out}
-use Rattle.model.specs.Job.{End, t-min, t-max, h-min, h-max, meets, Windows, Inside, produces, consumes, ahead}
+use Rattle.model.specs.Job.{End, t-min, t-max, h-min, h-max, meets, Windows, Inside, produces, consumes, ahead, any}
 use Rattle.model.specs.View.{View}
 use Rattle.model.specs.Levels.{Place, sure, possible, never, placed, place, gain, gains, most-in, most, e-min, e-max, stands}
 use Rattle.model.specs.Rules.{targeted}
-use Rattle.model.specs.Facts.{any, first-late, last-early, left-out, surely-consumed, late, early, cites, says}
+use Rattle.model.specs.Facts.{first-late, last-early, left-out, surely-consumed, late, early, cites, says}
 use Rattle.model.proofs.Order.{meets-refl}
 use Rattle.model.proofs.Levels.{ahead-le, gain-le, gain-possible, Weaker, Wider, place-weaker, target-gain, Signed, same-producer, same-consumer}
 use Rattle.model.proofs.Premises.{Keeps, any-in}

@@ -6,15 +6,16 @@ use mathlib.Core.List.{List, [], _∷_, _++_, append-nil, append-assoc}
 use Prim.Native.Nat.{ℕ, zero, suc, _+_, _≤_, _<_}
 use native.Mathlib.Numerals.{add-one}
 use native.Mathlib.Omega.{arith}
-use lib.Dec.{T, eqb-refl}
+use lib.Dec.{T, eqb-refl, eqb}
 use lib.IntN.{ℤ, pos}
 use lib.ListN.{length, set}
-use Rattle.model.specs.Job.{slot, windows, Job, lags, lag-a, lag-b, events}
+use Rattle.model.specs.Job.{slot, windows, Job, lags, lag-a, lag-b, events, sets, set-size, member}
 use Rattle.model.specs.Standing.{Sane}
 use Rattle.model.specs.Rules.{reservoir, level, time, height, rule, own-end, finding, Effect, idle, narrows, fails, effect, known-rule}
 use Rattle.model.specs.Slips.{Explanation, slip-words, explanation}
-use Rattle.model.specs.Agenda.{Attempt, try, each-of, lag-attempts, three-attempts, event-attempts, agenda, Each, Allowed, Valid}
+use Rattle.model.specs.Agenda.{Attempt, try, each-of, lag-attempts, three-attempts, event-attempts, agenda, Each, Allowed, Valid, set-attempts}
 use Rattle.model.specs.Rounds.{conflict, stopped, Status, running, ended, State, fits, acted, attempt, round, made}
+use Rattle.model.proofs.Premises.{any-in}
 
 -- ---- the agenda
 
@@ -33,6 +34,14 @@ module _ (j : Job) (sane : Sane j) where
     record { known = tt; subject = l; event = sane .lag g l .real-a; target = eqb-refl (lag-a j g) },
     (record { known = tt; subject = l; event = sane .lag g l .real-b; target = eqb-refl (lag-b j g) }, tt),
   )
+
+  set-valid : (g : ℕ) → g < sets j → Each (Allowed j) (set-attempts j g)
+  set-valid g l =
+      each-of-all (Allowed j) (λ i. try 17 g (member j g i) ∷ try 18 g (member j g i) ∷ []) (set-size j g) 0 (set-size j g)
+      (λ i n.
+      let here = any-in (set-size j g) i (λ k. eqb (member j g k) (member j g i)) n (eqb-refl (member j g i)) in
+      (record { known = tt; subject = l; event = sane .set-sane g l .member-real i n; target = here }, (record { known = tt; subject = l; event = sane .set-sane g l .member-real i n; target = here }, tt)))
+      (omega arith)
 
   -- Rules r, r + 1 and r + 2 are the level's, the time's and the amount's of one side and switch.
   three-valid : (r : ℕ) (m b : Bool) → T (known-rule (pos r)) → T (known-rule (pos (r + 1))) → T (known-rule (pos (r + 2))) → rule r ≡ reservoir m b level → rule (r + 1) ≡ reservoir m b time → rule (r + 2) ≡ reservoir m b height →
@@ -57,7 +66,8 @@ module _ (j : Job) (sane : Sane j) where
   unfolding agenda
   agenda-valid =
       each-append (Allowed j) (each-of (lag-attempts j) 0 (lags j)) _ (each-of-all (Allowed j) (lag-attempts j) (lags j) 0 (lags j) lag-valid (omega arith))
-      (each-of-all (Allowed j) (event-attempts j) (events j) 0 (events j) event-valid (omega arith))
+      (each-append (Allowed j) (each-of (set-attempts j) 0 (sets j)) _ (each-of-all (Allowed j) (set-attempts j) (sets j) 0 (sets j) set-valid (omega arith))
+      (each-of-all (Allowed j) (event-attempts j) (events j) 0 (events j) event-valid (omega arith)))
 
 -- ---- attempts in turn
 
@@ -79,6 +89,14 @@ pub made-more : (room : ℕ) (j : Job) (f : ℕ → List Attempt) (i : ℕ) (s :
 made-more room j f i s =
     let e : 0 + i ≡ i = omega arith in
     rw (add-one i, each-of-more f 0 i, e) (made-append room j (each-of f 0 i) (f i) s)
+
+-- A round's three loops.
+pub round-loops : (room : ℕ) (j : Job) (s : State) →
+    round room j s ≡ made room j (each-of (event-attempts j) 0 (events j)) (made room j (each-of (set-attempts j) 0 (sets j)) (made room j (each-of (lag-attempts j) 0 (lags j)) s))
+unfolding agenda
+round-loops room j s =
+    made-append room j (each-of (lag-attempts j) 0 (lags j)) _ s
+    ∙ made-append room j (each-of (set-attempts j) 0 (sets j)) (each-of (event-attempts j) 0 (events j)) (made room j (each-of (lag-attempts j) 0 (lags j)) s)
 
 -- What every attempt keeps, a round keeps.
 module _ (room : ℕ) (j : Job) (P : State → Type 0) (attempt-keeps : (r e y : ℕ) → Valid j r e y → (s : State) → P s → P (attempt room r j e y s)) where

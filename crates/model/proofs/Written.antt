@@ -32,7 +32,7 @@ pub record Wrote (j : Job) (table : List ℤ) (x : Explanation) : Type 0 where
   pub busy : outcome ≡ idle → ⊥
   pub slip-is : x ≡ explanation r j (windows table) e y outcome
 
--- The planner's slips are formed: rule 1..14, at most 256 facts.
+-- The planner's slips are formed: a rule, at most 256 facts.
 pub formed-explanation : (j : Job) → Sane j → (W : Windows) (r e y : ℕ) (x : Effect) → T (known-rule (pos r)) → Formed (explanation r j W e y x)
 formed-explanation j sane W r e y x known =
     record {

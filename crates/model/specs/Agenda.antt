@@ -3,7 +3,7 @@ use mathlib.Core.List.{List, [], _∷_, _++_}
 use Prim.Native.Nat.{ℕ, zero, suc, _+_, _<_}
 use lib.Dec.{T}
 use lib.IntN.{pos}
-use Rattle.model.specs.Job.{Job, events, lags, lag-a, lag-b}
+use Rattle.model.specs.Job.{Job, events, lags, lag-a, lag-b, member, set-size, sets}
 use Rattle.model.specs.Rules.{known-rule, rule, subjects, target-fits}
 
 -- Rule r with its subject and its target.
@@ -15,7 +15,7 @@ pub record Attempt : Type 0 where
 abbrev pub try : ℕ → ℕ → ℕ → Attempt
 try r e y = record { rule = r; subject = e; target = y }
 
--- It is one of the job's: rule 1..14, a subject that the rule has, a target that fits.
+-- It is one of the job's: a rule, a subject that the rule has, a target that fits.
 pub record Valid (j : Job) (r e y : ℕ) : Type 0 where
   pub known : T (known-rule (pos r))
   pub subject : e < subjects (rule r) j
@@ -41,6 +41,10 @@ each-of f i (suc k) = f i ++ each-of f (i + 1) k
 abbrev pub lag-attempts : Job → ℕ → List Attempt
 lag-attempts j g = try 1 g (lag-a j g) ∷ try 2 g (lag-b j g) ∷ []
 
+-- A set: its members as listed, for each rule 17, then 18.
+abbrev pub set-attempts : Job → ℕ → List Attempt
+set-attempts j g = each-of (λ i. try 17 g (member j g i) ∷ try 18 g (member j g i) ∷ []) 0 (set-size j g)
+
 -- Rule r at e with every target in event order.
 abbrev pub target-attempts : Job → ℕ → ℕ → List Attempt
 target-attempts j r e = each-of (λ y. try r e y ∷ []) 0 (events j)
@@ -54,6 +58,8 @@ abbrev pub event-attempts : Job → ℕ → List Attempt
 event-attempts j e =
     three-attempts j 3 e ++ (three-attempts j 6 e ++ (three-attempts j 9 e ++ three-attempts j 12 e))
 
--- A round: lags in table order; then events in order.
+-- A round: lags in table order; then sets in order; then events in order.
 unfoldable pub agenda : Job → List Attempt
-agenda j = each-of (lag-attempts j) 0 (lags j) ++ each-of (event-attempts j) 0 (events j)
+agenda j =
+    each-of (lag-attempts j) 0 (lags j)
+    ++ (each-of (set-attempts j) 0 (sets j) ++ each-of (event-attempts j) 0 (events j))

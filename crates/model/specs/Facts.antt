@@ -1,17 +1,12 @@
 -- Document 01, "Facts on a slip": which ends a slip quotes, and what it says of them. Each (event, kind) is quoted at most once.
 use mathlib.Core.Bool.{Bool, true, false, not, cond, _&&_, _||_}
-use Prim.Native.Nat.{ℕ, zero, suc}
+use Prim.Native.Nat.{ℕ}
 use lib.Dec.{eqb}
 use lib.IntN.{ℤ, pos, _+ℤ_, _-ℤ_}
-use Rattle.model.specs.Job.{End, t-min, t-max, h-min, h-max, Windows, Job, produces, consumes, lag-a, lag-b}
-use Rattle.model.specs.View.{side-value, side-end, View, view, seen}
+use Rattle.model.specs.Job.{End, t-min, t-max, h-min, h-max, Windows, Job, produces, consumes, lag-a, lag-b, any, in-set}
+use Rattle.model.specs.View.{side-value, side-end, View, view, seen, look}
 use Rattle.model.specs.Levels.{Place, sure, possible, never, place, e-min, e-max}
-use Rattle.model.specs.Rules.{Family, level, time, height, Rule, lag-upper, lag-lower, reservoir, targeted, Effect, idle, narrows, fails, failed, is-narrowing}
-
--- Is it so for one of the first n events?
-unfoldable pub any : ℕ → (ℕ → Bool) → Bool
-any zero p = false
-any (suc n) p = any n p || p n
+use Rattle.model.specs.Rules.{Family, level, time, height, Rule, lag-upper, lag-lower, reservoir, targeted, Effect, idle, narrows, fails, failed, is-narrowing, total}
 
 -- A delivery not counted comes no earlier than t_max(e) ("by": t_max(e) + 1).
 abbrev pub first-late : Bool → ℤ → ℤ
@@ -92,15 +87,24 @@ lag-cites a b j g z t-max = b && eqb z (lag-b j g)
 lag-cites a b j g z h-min = false
 lag-cites a b j g z h-max = false
 
+-- Rules 17 and 18: the ends used of others not neutral; of a conflict also the opposite end of the target.
+abbrev pub total-cites : Windows → ℕ → Bool → ℕ → End → Bool
+total-cites W y f z t-min = false
+total-cites W y f z t-max = false
+total-cites W y f z h-min = false
+total-cites W y f z h-max = cond (eqb z y) f (consumes (W z h-max) || produces (W z h-max))
+
 -- Does the slip of a rule, subject e and target y with this effect quote the end k of event z, and what does it say of it?
 -- Mirrors take h ≥ h_min and exchange delivery and pull.
 unfoldable pub quotes : Rule → Job → Windows → ℕ → ℕ → Effect → ℕ → End → Bool
 quotes lag-upper j W e y x z k = lag-cites (failed x) true j e z k
 quotes lag-lower j W e y x z k = lag-cites true (failed x) j e z k
 quotes (reservoir m b f) j W e y x z k = family-cites f (view j m b e) (seen j m e W) y x z (side-end m k)
+quotes (total m) j W g y x z k = total-cites (look (in-set j g) m W) y (failed x) z (side-end m k)
 
 unfoldable pub quoted : Rule → Job → Windows → ℕ → ℕ → Effect → ℕ → End → ℤ
 quoted lag-upper j W e y x z k = W z k
 quoted lag-lower j W e y x z k = W z k
 quoted (reservoir m b f) j W e y x z k =
     side-value m k (family-says f (view j m b e) (seen j m e W) x z (side-end m k))
+quoted (total m) j W g y x z k = W z k

@@ -1,9 +1,9 @@
 -- Document 01, "The job": events and their windows, the job, schedules (day plans) and which of them are legal; "Tables": the window table and the lag table as words.
 -- Read this first: everything else in specs/ speaks of it.
-use mathlib.Core.Bool.{Bool, true, false, cond, _&&_}
+use mathlib.Core.Bool.{Bool, true, false, cond, _&&_, _||_}
 use mathlib.Core.List.{List}
-use Prim.Native.Nat.{ℕ, _+_, _*_, _/_, _<_}
-use lib.Dec.{T, eqb}
+use Prim.Native.Nat.{ℕ, zero, suc, _+_, _*_, _/_, _<_}
+use lib.Dec.{T, eqb, ltb}
 use lib.IntN.{ℤ, pos, negsuc, natAbs, _+ℤ_, _-ℤ_}
 use lib.ListN.{getD, length}
 use lib.Signed.{leZ, ltZ, _≤ℤ_}
@@ -72,13 +72,14 @@ pub record Reservoir : Type 0 where
 abbrev pub counts-later : Reservoir → ℤ → Bool
 counts-later c h = eqZ (c .cover) (pos 0) && produces h
 
--- The job: the words of a call as they are sent: horizon H, the cage table, the window table, the lag table. Every job is a call's.
+-- The job: the words of a call as they are sent: horizon H, the cage table, the window table, the lag table, the set table. Every job is a call's.
 -- What a call never changes, as the number of events and each event's cage, is read off the job; where its windows stand is told beside it.
 pub record Job : Type 0 where
   pub horizon : ℤ
   pub cage-table : List ℤ
   pub window-table : List ℤ
   pub lag-table : List ℤ
+  pub set-table : List ℤ
 
 abbrev pub events : Job → ℕ
 events j = length (j .window-table) / 5
@@ -129,6 +130,57 @@ lag-b j g = natAbs (lag-word (j .lag-table) g 1)
 abbrev pub lag-d : Job → ℕ → ℤ
 lag-d j g = lag-word (j .lag-table) g 2
 
+-- Is it so for one of the first n, for all of them?
+unfoldable pub any : ℕ → (ℕ → Bool) → Bool
+any zero p = false
+any (suc n) p = any n p || p n
+
+unfoldable pub every : ℕ → (ℕ → Bool) → Bool
+every zero p = true
+every (suc n) p = every n p && p n
+
+-- The set table: the sets one after another, each least total, most total, member count, members. A count under 1 is walked as 0.
+abbrev pub to-count : ℤ → ℕ
+to-count (pos n) = n
+to-count (negsuc n) = 0
+
+unfoldable pub set-begin : List ℤ → ℕ → ℕ
+set-begin ws zero = 0
+set-begin ws (suc g) = set-begin ws g + 3 + to-count (getD ws (set-begin ws g + 2) (pos 0))
+
+abbrev pub set-word : List ℤ → ℕ → ℕ → ℤ
+set-word ws g i = getD ws (set-begin ws g + i) (pos 0)
+
+abbrev pub member-count : List ℤ → ℕ → ℕ
+member-count ws g = to-count (set-word ws g 2)
+
+abbrev pub member-word : List ℤ → ℕ → ℕ → ℤ
+member-word ws g i = set-word ws g (3 + i)
+
+-- As many sets as begin in the words, of the first k.
+unfoldable pub begun : List ℤ → ℕ → ℕ
+begun ws zero = 0
+begun ws (suc k) = cond (ltb (set-begin ws k) (length ws)) (suc k) (begun ws k)
+
+-- The job's sets: a seventeenth is counted, and is one too many.
+abbrev pub sets : Job → ℕ
+sets j = begun (j .set-table) 17
+
+abbrev pub set-least : Job → ℕ → ℤ
+set-least j g = set-word (j .set-table) g 0
+
+abbrev pub set-most : Job → ℕ → ℤ
+set-most j g = set-word (j .set-table) g 1
+
+abbrev pub set-size : Job → ℕ → ℕ
+set-size j g = member-count (j .set-table) g
+
+abbrev pub member : Job → ℕ → ℕ → ℕ
+member j g i = natAbs (member-word (j .set-table) g i)
+
+abbrev pub in-set : Job → ℕ → ℕ → Bool
+in-set j g y = any (set-size j g) (λ i. eqb (member j g i) y)
+
 -- ---- schedules
 
 -- A schedule (day plan) gives every event a minute and an amount.
@@ -155,10 +207,16 @@ unfoldable pub stock : (ℕ → Bool) → Job → ℕ → Schedule → ℤ → �
 stock s j c p m =
     cage j c .initial +ℤ sum (events j) (λ y. cond (ahead (s y) (p .time y) m) (brings j c p y) (pos 0))
 
--- Legal in the windows W: inside them, all lags hold, and of every cage both limits at every whole moment, earlier than the first event too. The low limit is by cover; for the high limit no event counts later.
+-- The amount sum of a set.
+unfoldable pub set-sum : Job → ℕ → Schedule → ℤ
+set-sum j g p = sum (events j) (λ y. cond (in-set j g y) (p .height y) (pos 0))
+
+-- Legal in the windows W: inside them, all lags hold, all sets keep their totals, and of every cage both limits at every whole moment, earlier than the first event too. The low limit is by cover; for the high limit no event counts later.
 pub record Legal (j : Job) (W : Windows) (p : Schedule) : Type 0 where
   pub within : Inside (events j) W (value p)
   pub lagged : (g : ℕ) → g < lags j → (p .time (lag-a j g) -ℤ p .time (lag-b j g)) ≤ℤ lag-d j g
+  pub least-kept : (g : ℕ) → g < sets j → set-least j g ≤ℤ set-sum j g p
+  pub most-kept : (g : ℕ) → g < sets j → set-sum j g p ≤ℤ set-most j g
   pub above-min : (c : ℕ) → c < cages j → (m : ℤ) → cage j c .min-level ≤ℤ stock (λ y. counts-later (cage j c) (p .height y)) j c p m
   pub below-max : (c : ℕ) → c < cages j → (m : ℤ) → stock (λ y. false) j c p m ≤ℤ cage j c .max-level
 

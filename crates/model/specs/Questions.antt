@@ -2,12 +2,12 @@
 use mathlib.Core.Bool.{Bool, true, false, not, cond, _&&_, _||_}
 use mathlib.Core.List.{List}
 use Prim.Native.Nat.{ℕ, zero, suc, _+_, _/_, _%_}
-use lib.Dec.{eqb, leb}
+use lib.Dec.{ltb, eqb, leb, ltb}
 use lib.IntN.{ℤ, pos, negsuc}
 use lib.ListN.{length}
 use lib.Signed.{leZ, ltZ}
 use Rattle.integers.specs.Range.{eqZ}
-use Rattle.model.specs.Job.{cage-at, cage-word, cages, t-min, t-max, h-min, h-max, Windows, windows, Reservoir, Job, events, lag-word}
+use Rattle.model.specs.Job.{every, set-begin, set-word, member-count, member-word, begun, cage-at, cage-word, cages, t-min, t-max, h-min, h-max, Windows, windows, Reservoir, Job, events, lag-word}
 
 -- A "no" ends the call with the question's number and the place of the first event, lag or slip concerned.
 pub data Check : Type 0 where
@@ -97,11 +97,31 @@ lag-differs ws g = not (eqZ (lag-word ws g 0) (lag-word ws g 1))
 abbrev pub lag-in-range : List ℤ → ℕ → Bool
 lag-in-range ws g = in-range (negsuc 19999) (pos 20000) (lag-word ws g 2)
 
+-- 31. A set is one of the first 16, and whole.
+abbrev pub set-whole : List ℤ → ℕ → Bool
+set-whole ws g = ltb g 16 && leb (set-begin ws (suc g)) (length ws)
+
+-- 32. It has members, all of them events, of n, none twice.
+abbrev pub member-right : ℕ → List ℤ → ℕ → ℕ → Bool
+member-right n ws g i =
+    is-event n (member-word ws g i) && every i (λ k. not (eqZ (member-word ws g k) (member-word ws g i)))
+
+abbrev pub members-right : ℕ → List ℤ → ℕ → Bool
+members-right n ws g = leZ (pos 1) (set-word ws g 2) && every (member-count ws g) (member-right n ws g)
+
+-- 33. Its totals are in −639,936..639,936, the least not over the most.
+abbrev pub total-in-range : ℤ → Bool
+total-in-range x = in-range (negsuc 639935) (pos 639936) x
+
+abbrev pub totals-right : List ℤ → ℕ → Bool
+totals-right ws g =
+    total-in-range (set-word ws g 0) && total-in-range (set-word ws g 1) && leZ (set-word ws g 0) (set-word ws g 1)
+
 -- 11. The slip buffer has 3 to 1,000,000 words.
 abbrev pub room-right : ℕ → Bool
 room-right room = leb 3 room && leb room 1000000
 
--- ---- the questions in order; each goes to all cages, events or lags before the next
+-- ---- the questions in order; each goes to all cages, events, lags or sets before the next
 
 -- 1, 29, 2, 3 and 22, of the horizon and the cage table.
 abbrev pub cage-questions : ℤ → List ℤ → Check
@@ -128,12 +148,20 @@ lag-questions n ws =
     then each 9 (lag-differs ws) 0 (length ws / 3)
     then each 10 (lag-in-range ws) 0 (length ws / 3)
 
+-- 31 to 33, of the set table of n events.
+abbrev pub set-questions : ℕ → List ℤ → Check
+set-questions n ws =
+    each 31 (set-whole ws) 0 (begun ws 17)
+    then each 32 (members-right n ws) 0 (begun ws 17)
+    then each 33 (totals-right ws) 0 (begun ws 17)
+
 -- The job's own questions.
 unfoldable pub own-questions : Job → Check
 own-questions j =
     cage-questions (j .horizon) (j .cage-table)
     then window-questions (j .horizon) (cages j) (j .window-table)
     then lag-questions (events j) (j .lag-table)
+    then set-questions (events j) (j .set-table)
 
 -- Questions 1 to 11: the job's own, then of the length of its slip buffer.
 unfoldable pub questions : Job → ℕ → Check

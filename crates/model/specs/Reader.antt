@@ -8,7 +8,7 @@ use lib.ListN.{length, set}
 use lib.Signed.{leZ}
 use Rattle.integers.specs.Range.{eqZ}
 use Rattle.model.specs.Job.{End, meets, word, slot, Windows, windows, widest, Job, events}
-use Rattle.model.specs.Rules.{Rule, lag-upper, lag-lower, reservoir, level, time, height, Finding, nothing, clash, bound, finding, own-end, effect, failed, subjects, is-narrowing, target-fits, known-rule}
+use Rattle.model.specs.Rules.{Rule, lag-upper, lag-lower, reservoir, level, time, height, Finding, nothing, clash, bound, finding, own-end, effect, failed, subjects, is-narrowing, target-fits, known-rule, total}
 use Rattle.model.specs.Slips.{Premise, Explanation, number, slip-length, at, slip-at, premise-end, premise-event, rule-of, target-of, premise-count, subject-of}
 use Rattle.model.specs.Rounds.{Verdict, conflict, still-open}
 use Rattle.model.specs.Questions.{Check, pass, refuse, ask, is-event, in-range, questions, _then_}
@@ -16,7 +16,7 @@ use Rattle.model.specs.Planner.{refused, done, Outcome}
 
 -- ---- 13. A slip read
 
--- 13. Whole before the trailer (at stop), rule 1..14, m in 0..256, length right?
+-- 13. Whole before the trailer (at stop), rule 1..14, 17 or 18, m in 0..256, length right?
 unfoldable pub whole : List ℤ → ℕ → ℕ → Bool
 whole list stop i =
     leb (i + 7) stop
@@ -43,6 +43,7 @@ has-bound lag-lower = true
 has-bound (reservoir m b level) = false
 has-bound (reservoir m b time) = true
 has-bound (reservoir m b height) = true
+has-bound (total m) = true
 
 -- The kind is the rule's own, or 0 with value 0.
 abbrev pub kind-fits : Rule → ℤ → ℤ → Bool

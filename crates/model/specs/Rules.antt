@@ -1,14 +1,15 @@
 -- Document 01, "The fourteen rules": what each rule gives on windows, and what that does to the target's window.
 use mathlib.Core.Bool.{Bool, true, false, cond, _&&_, _||_}
 use mathlib.Core.List.{List, [], _∷_}
-use Prim.Native.Nat.{ℕ, zero, suc, _-_}
+use Prim.Native.Nat.{ℕ, zero, suc, _-_, _+_}
 use lib.Dec.{eqb}
-use lib.IntN.{ℤ, pos, _+ℤ_, _-ℤ_}
+use lib.IntN.{ℤ, pos, _+ℤ_, _-ℤ_, negℤ}
 use lib.ListN.{getD}
 use lib.Signed.{leZ, ltZ}
-use Rattle.model.specs.Job.{End, t-min, t-max, h-min, h-max, opposite, meets, Windows, produces, consumes, Job, events, lags, lag-a, lag-b, lag-d}
-use Rattle.model.specs.View.{side-value, side-end, View, view, seen}
+use Rattle.model.specs.Job.{End, t-min, t-max, h-min, h-max, opposite, meets, Windows, produces, consumes, Job, events, lags, lag-a, lag-b, lag-d, set-least, set-most, in-set, sets}
+use Rattle.model.specs.View.{side-value, side-end, View, view, seen, look}
 use Rattle.model.specs.Levels.{Place, sure, possible, never, e-min, stands, most-in, most, sure-part}
+use Rattle.integers.specs.Sum.{sum}
 
 -- What a rule gives: nothing, a conflict of the levels, or a bound on its target.
 pub data Finding : Type 0 where
@@ -73,16 +74,31 @@ height-rule E W y =
     (targeted (stands E W y) (W y h-max))
     (bound (E .limit -ℤ (most E W -ℤ W y h-max)))
 
+-- ---- rules 17 and 18
+
+-- The limit that a set's sum must reach: the least total, in the mirror the most negated.
+abbrev pub total-limit : Bool → Job → ℕ → ℤ
+total-limit false j g = set-least j g
+total-limit true j g = negℤ (set-most j g)
+
+-- h(y) ≥ least − (sum of the other members' h_max), over windows that show the members only.
+unfoldable pub others : ℕ → Windows → ℕ → ℤ
+others n W y = sum n (λ z. cond (eqb z y) (pos 0) (W z h-max))
+
+abbrev pub total-rule : ℤ → ℕ → Windows → ℕ → Finding
+total-rule limit n W y = bound (limit -ℤ others n W y)
+
 -- ---- the rules by number
 
 -- The level's conflict, e's time, an amount.
 pub data Family : Type 0 where
   level time height : Family
 
--- Rules 1 and 2; the others: the job or its mirror, before or by, the family.
+-- Rules 1 and 2; 3 to 14: the job or its mirror, before or by, the family; 17 and 18: the job or its mirror.
 pub data Rule : Type 0 where
   lag-upper lag-lower : Rule
   reservoir : Bool → Bool → Family → Rule
+  total : Bool → Rule
 
 abbrev pub rules : List Rule
 rules =
@@ -100,11 +116,15 @@ rules =
     ∷ reservoir true false level
     ∷ reservoir true false time
     ∷ reservoir true false height
+    ∷ lag-upper
+    ∷ lag-upper
+    ∷ total false
+    ∷ total true
     ∷ []
 
--- Rule r of 1..14.
+-- Rule r of 1..14, 17 and 18; 15 and 16 are none, and their places are held.
 abbrev pub known-rule : ℤ → Bool
-known-rule r = leZ (pos 1) r && leZ r (pos 14)
+known-rule r = (leZ (pos 1) r && leZ r (pos 14)) || (leZ (pos 17) r && leZ r (pos 18))
 
 abbrev pub rule : ℕ → Rule
 rule r = getD rules (r - 1) lag-upper
@@ -126,33 +146,38 @@ side-finding m k nothing = nothing
 side-finding m k clash = clash
 side-finding m k (bound v) = bound (side-value m k v)
 
--- What a rule gives for a subject (a lag number in rules 1 and 2, else the event e at hand) and a target on windows.
+-- What a rule gives for a subject (a lag number in rules 1 and 2, a set in 17 and 18, else the event e at hand) and a target on windows.
 -- Rule 1, lag: t(a) ≤ t_max(b) + d, target a. Rule 2: t(b) ≥ t_min(a) − d, target b.
 unfoldable pub finding : Rule → Job → Windows → ℕ → ℕ → Finding
 finding lag-upper j W g y = bound (W (lag-b j g) t-max +ℤ lag-d j g)
 finding lag-lower j W g y = bound (W (lag-a j g) t-min -ℤ lag-d j g)
 finding (reservoir m b f) j W e y =
     side-finding m (family-end f) (family-rule f (view j m b e) (seen j m e W) y)
+finding (total m) j W g y =
+    side-finding m h-min (total-rule (total-limit m j g) (events j) (look (in-set j g) m W) y)
 
 -- The end a rule's bound is about.
 abbrev pub own-end : Rule → End
 own-end lag-upper = t-max
 own-end lag-lower = t-min
 own-end (reservoir m b f) = side-end m (family-end f)
+own-end (total m) = side-end m h-min
 
--- The subjects that a rule has, from 0: lags in rules 1 and 2, else events.
+-- The subjects that a rule has, from 0: lags in rules 1 and 2, sets in 17 and 18, else events.
 abbrev pub subjects : Rule → Job → ℕ
 subjects lag-upper j = lags j
 subjects lag-lower j = lags j
 subjects (reservoir m b f) j = events j
+subjects (total m) j = sets j
 
--- The target fits the rule: a, b, or e; any event in 5, 8, 11, 14.
+-- The target fits the rule: a, b, or e; any event in 5, 8, 11, 14; a member in 17 and 18.
 abbrev pub target-fits : Rule → Job → ℕ → ℕ → Bool
 target-fits lag-upper j g y = eqb y (lag-a j g)
 target-fits lag-lower j g y = eqb y (lag-b j g)
 target-fits (reservoir m b level) j e y = eqb y e
 target-fits (reservoir m b time) j e y = eqb y e
 target-fits (reservoir m b height) j e y = true
+target-fits (total m) j g y = in-set j g y
 
 -- ---- what a finding does
 

@@ -1,10 +1,12 @@
 -- What holds of a job that its own questions let pass, and of its windows throughout a call: what the theory and the code's contracts both speak of.
+use mathlib.Core.Path.{_≡_}
 use mathlib.Core.List.{List}
-use Prim.Native.Nat.{ℕ, _≤_, _<_}
+use Prim.Native.Nat.{ℕ, suc, _≤_, _<_}
 use lib.IntN.{pos, natAbs, ℤ}
+use lib.ListN.{length}
 use lib.Signed.{_≤ℤ_}
 use Rattle.integers.specs.Range.{Within}
-use Rattle.model.specs.Job.{End, t-min, t-max, h-min, h-max, Windows, Reservoir, Job, events, lags, lag-word, Inside, widest, cages, cage, cage-word, cage-of}
+use Rattle.model.specs.Job.{End, t-min, t-max, h-min, h-max, Windows, Reservoir, Job, events, lags, lag-word, Inside, widest, cages, cage, cage-word, cage-of, sets, set-begin, member-word, set-word, member-count}
 
 -- A cage that question 2 lets pass.
 pub record SaneCage (c : Reservoir) : Type 0 where
@@ -20,6 +22,16 @@ pub record SaneLag (n : ℕ) (ws : List ℤ) (g : ℕ) : Type 0 where
   pub real-b : natAbs (lag-word ws g 1) < n
   pub gap-range : Within (lag-word ws g 2) 20000
 
+-- Set g of a table's words, which questions 31 to 33 let pass in a job of n events.
+pub record SaneSet (n : ℕ) (ws : List ℤ) (g : ℕ) : Type 0 where
+  pub inside : set-begin ws (suc g) ≤ length ws
+  pub some-member : 1 ≤ member-count ws g
+  pub member-sign : (i : ℕ) → i < member-count ws g → pos 0 ≤ℤ member-word ws g i
+  pub member-real : (i : ℕ) → i < member-count ws g → natAbs (member-word ws g i) < n
+  pub member-distinct : (i k : ℕ) → i < member-count ws g → k < i → natAbs (member-word ws g k) ≡ natAbs (member-word ws g i) → ⊥
+  pub least-range : Within (set-word ws g 0) 639936
+  pub most-range : Within (set-word ws g 1) 639936
+
 -- A job whose own questions passed, but for what 5 and 6 say of its windows.
 pub record Sane (j : Job) : Type 0 where
   pub horizon-low : pos 0 ≤ℤ j .horizon
@@ -32,6 +44,8 @@ pub record Sane (j : Job) : Type 0 where
   pub few-events : events j ≤ 64
   pub few-lags : lags j ≤ 256
   pub lag : (g : ℕ) → g < lags j → SaneLag (events j) (j .lag-table) g
+  pub few-sets : sets j ≤ 16
+  pub set-sane : (g : ℕ) → g < sets j → SaneSet (events j) (j .set-table) g
 
 -- The windows W stand in a call of the job: inside the widest ones, none empty. So signs are kept.
 pub record Standing (j : Job) (W : Windows) : Type 0 where

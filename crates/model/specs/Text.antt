@@ -2,7 +2,7 @@
 -- Its numbers are a job, part by part in their order. Text otherwise formed, a number outside 32 bits, a count out of range, a number too few or too many: malformed.
 use mathlib.Core.Bool.{Bool, true, false, cond, _&&_, _||_}
 use mathlib.Core.List.{List, [], _∷_, _++_}
-use Prim.Native.Nat.{ℕ, _+_, _*_, _-_}
+use Prim.Native.Nat.{ℕ, zero, suc, _+_, _*_, _-_}
 use Prim.Native.Char.{code}
 use Prim.Native.String.{String}
 use Prim.Native.String
@@ -104,7 +104,27 @@ abbrev pub at-end : {A : Type 0} → A → List ℤ → Parsed A
 at-end a [] = parsed a
 at-end a (z ∷ ns) = malformed
 
--- The job that numbers say: H, the number of cages and their words, n m, then n events, m lags.
+-- A part that takes no number.
+abbrev pub give : {A : Type 0} → A → Part A
+give a ns = parsed (a, ns)
+
+-- A set: its totals, the number of its members in 0..64, the members.
+abbrev pub next-set : Part (List ℤ)
+next-set = do
+  least ← next-number
+  most ← next-number
+  k ← count-in 0 64
+  members ← next-words k
+  give (least ∷ most ∷ pos k ∷ members)
+
+unfoldable pub next-sets : ℕ → Part (List ℤ)
+next-sets zero = give []
+next-sets (suc k) = do
+  set ← next-set
+  others ← next-sets k
+  give (set ++ others)
+
+-- The job that numbers say: H, the number of cages and their words, n m, then n events, m lags, the number of sets and their words.
 unfoldable pub job-of : List ℤ → Parsed Job
 job-of = do
   h ← next-number
@@ -114,7 +134,9 @@ job-of = do
   m ← count-in 0 256
   windows ← next-words (5 * n)
   lags ← next-words (3 * m)
-  at-end (record { horizon = h; cage-table = cages; window-table = windows; lag-table = lags })
+  s ← count-in 0 16
+  sets ← next-sets s
+  at-end (record { horizon = h; cage-table = cages; window-table = windows; lag-table = lags; set-table = sets })
 
 -- The job that a text says.
 unfoldable pub job-text : List ℕ → Parsed Job

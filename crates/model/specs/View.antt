@@ -68,6 +68,10 @@ shown b t-max v = v
 shown b h-min v = cond b v (pos 0)
 shown b h-max v = cond b v (pos 0)
 
+-- Windows on the side m of which only the events of a test are shown.
+abbrev pub look : (ℕ → Bool) → Bool → Windows → Windows
+look own m W y k = shown (own y) k (side m W y k)
+
 -- The windows as a rule of side m at e sees them.
 abbrev pub seen : Job → Bool → ℕ → Windows → Windows
-seen j m e W y k = shown (here j e y) k (side m W y k)
+seen j m e W = look (here j e) m W
