@@ -12,7 +12,7 @@ use Rattle.integers.specs.Range.{eqZ}
 use Rattle.integers.proofs.Sums.{sum-ext}
 use Rattle.integers.proofs.Tests.{true-is}
 use Rattle.model.specs.Job.{End, t-min, t-max, h-min, h-max, opposite, meets, Windows, Job, lag-a, lag-b, lag-d, events, ahead, counts-later, home, any, in-set, consumes, produces}
-use Rattle.model.specs.Standing.{Sane, Standing}
+use Rattle.model.specs.Standing.{Sane, SaneLags, Standing}
 use Rattle.model.specs.View.{side-end, side-value, View, view, seen, view-of, shown, here, look}
 use Rattle.model.specs.Levels.{placed, place, gain, gains, most-in, most, sure-gain, sure-part, e-min, e-max, stands}
 use Rattle.model.specs.Rules.{Finding, nothing, clash, bound, given-if, counts-from, earlier, possible-producer, reached-at, earliest, targeted, Family, level, time, height, Rule, lag-upper, lag-lower, reservoir, rule, family-rule, family-end, side-finding, finding, own-end, Effect, idle, narrows, fails, effect, failed, subjects, is-narrowing, total, total-limit, others}
@@ -170,20 +170,20 @@ module _ (j : Job) (W X : Windows) (a : Agree (events j) W X) where
   effect-agree k y l (bound v) =
       ap₂ (λ p q. cond (meets (opposite k) p v) (cond (meets k v q) idle (narrows v)) fails) (a y l (opposite k)) (a y l k)
 
-  pub finding-agree : Sane j → (r : Rule) (e y : ℕ) → e < subjects r j → y < events j → finding r j W e y ≡ finding r j X e y
+  pub finding-agree : SaneLags j → (r : Rule) (e y : ℕ) → e < subjects r j → y < events j → finding r j W e y ≡ finding r j X e y
   unfolding finding
-  finding-agree sane lag-upper g y l m = ap (λ t. bound (t +ℤ lag-d j g)) (a (lag-b j g) (sane .lag g l .real-b) t-max)
-  finding-agree sane lag-lower g y l m = ap (λ t. bound (t -ℤ lag-d j g)) (a (lag-a j g) (sane .lag g l .real-a) t-min)
-  finding-agree sane (reservoir m b f) e y l k =
+  finding-agree real lag-upper g y l m = ap (λ t. bound (t +ℤ lag-d j g)) (a (lag-b j g) (real g l .real-b) t-max)
+  finding-agree real lag-lower g y l m = ap (λ t. bound (t -ℤ lag-d j g)) (a (lag-a j g) (real g l .real-a) t-min)
+  finding-agree real (reservoir m b f) e y l k =
       ap (side-finding m (family-end f))
       (family-rule-agree (view j m b e) (view j m b e .before) (λ y l. refl) (seen j m e W) (seen j m e X) (look-agree (here j e) m (events j) W X a) l f y k)
-  finding-agree sane (total m) g y l k =
+  finding-agree real (total m) g y l k =
       ap (λ v. side-finding m h-min (bound (total-limit m j g -ℤ v))) (others-agree (events j) (look (in-set j g) m W) (look (in-set j g) m X) (look-agree (in-set j g) m (events j) W X a) y)
 
   -- The effect of an attempt.
-  pub outcome-agree : Sane j → (r : Rule) (e y : ℕ) → e < subjects r j → y < events j → effect (own-end r) W y (finding r j W e y) ≡ effect (own-end r) X y (finding r j X e y)
-  outcome-agree sane r e y l m =
-      effect-agree (own-end r) y m (finding r j W e y) ∙ ap (effect (own-end r) X y) (finding-agree sane r e y l m)
+  pub outcome-agree : SaneLags j → (r : Rule) (e y : ℕ) → e < subjects r j → y < events j → effect (own-end r) W y (finding r j W e y) ≡ effect (own-end r) X y (finding r j X e y)
+  outcome-agree real r e y l m =
+      effect-agree (own-end r) y m (finding r j W e y) ∙ ap (effect (own-end r) X y) (finding-agree real r e y l m)
 
   pub quotes-agree : (r : Rule) (e y : ℕ) (x : Effect) → e < subjects r j → (z : ℕ) → z < events j → (k : End) → quotes r j W e y x z k ≡ quotes r j X e y x z k
   unfolding quotes
@@ -249,8 +249,8 @@ gives-agree j W X a sane x t =
     let o = named j x t in
     let r = rule-of x in
     ap₂ (cond (is-conflict x))
-    (ap failed (outcome-agree j W X a sane r (subject-of x) (target-of x) (o .subject-real) (o .target-real)))
-    (ap (as-strict (own-end r) (x .value)) (finding-agree j W X a sane r (subject-of x) (target-of x) (o .subject-real) (o .target-real)))
+    (ap failed (outcome-agree j W X a (sane .lag) r (subject-of x) (target-of x) (o .subject-real) (o .target-real)))
+    (ap (as-strict (own-end r) (x .value)) (finding-agree j W X a (sane .lag) r (subject-of x) (target-of x) (o .subject-real) (o .target-real)))
 
 -- Questions 14 to 18 of a slip, where the widest windows agree and the standing ones.
 pub slip-questions-agree : (j : Job) (Y Z W X : Windows) → Agree (events j) Y Z → Agree (events j) W X → Sane j → (x : Explanation) (left : ℕ) → slip-questions j Y W x left ≡ slip-questions j Z X x left

@@ -493,7 +493,7 @@ module _ (j : Job) (sane : Sane j) (start : List ℤ) where
         let a = same-all W X masks in
         let q = lag-subjects (rule r) which g l in
         record {
-          effects = outcome-agree j W X a sane (rule r) g y q p ∙ ap (effect (own-end (rule r)) X y) (lag-finding (rule r) which X g y);
+          effects = outcome-agree j W X a (sane .lag) (rule r) g y q p ∙ ap (effect (own-end (rule r)) X y) (lag-finding (rule r) which X g y);
           slips = λ x. explanation-agree j W X a r g y x q ∙ lag-slip r which X g y x;
           inner = λ v q. refl;
         },

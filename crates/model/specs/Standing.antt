@@ -32,6 +32,10 @@ pub record SaneSet (n : ℕ) (ws : List ℤ) (g : ℕ) : Type 0 where
   pub least-range : Within (set-word ws g 0) 639936
   pub most-range : Within (set-word ws g 1) 639936
 
+-- All lags of a job.
+abbrev pub SaneLags : Job → Type 0
+SaneLags j = (g : ℕ) → g < lags j → SaneLag (events j) (j .lag-table) g
+
 -- A job whose own questions passed, but for what 5 and 6 say of its windows.
 pub record Sane (j : Job) : Type 0 where
   pub horizon-low : pos 0 ≤ℤ j .horizon
@@ -43,7 +47,7 @@ pub record Sane (j : Job) : Type 0 where
   pub cage-real : (y : ℕ) → y < events j → cage-of j y < cages j
   pub few-events : events j ≤ 64
   pub few-lags : lags j ≤ 256
-  pub lag : (g : ℕ) → g < lags j → SaneLag (events j) (j .lag-table) g
+  pub lag : SaneLags j
   pub few-sets : sets j ≤ 16
   pub set-sane : (g : ℕ) → g < sets j → SaneSet (events j) (j .set-table) g
 

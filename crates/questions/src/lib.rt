@@ -3,6 +3,7 @@ pub mod asked; // asked.rt: the questions in order
 
 // A slip buffer or a list has 3 to 1,000,000 words.
 pub const LEAST_ROOM: usize = 3;
+
 pub const MOST_ROOM: usize = 1000000;
 
 // A refused call: the question's number, and the cage, event, lag or slip concerned (else 0).

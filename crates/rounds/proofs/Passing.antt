@@ -19,7 +19,7 @@ use Rattle.tables.specs.Board.{board, table-of}
 use Rattle.tables.specs.Job.{reservoir-of, board-call, Serves, Fit}
 use Rattle.tables.specs.declared.Job.{Job}
 use Rattle.tables.proofs.Board.{length-table}
-use Rattle.tables.proofs.Holding.{sane-of, board-serves, serves-alike}
+use Rattle.tables.proofs.Holding.{lags-of, board-serves, serves-alike}
 use Rattle.levels.specs.Values.{as-view, seen-by}
 use Rattle.levels.specs.declared.View.{View as Sight}
 use Rattle.levels.proofs.Viewing.{events-are, most-here}
@@ -39,17 +39,16 @@ module _ {k : Job} {ws b buffer : List ℤ} {p : Progress} (fit : Fit k ws) (hel
 
   -- What does nothing on the board does nothing to the table.
   table-idle : (j : Call) → Serves k ws (board b) j → (x : Rule) (e y : ℕ) → e < subjects x j → y < k .events → Idle x j (board b) e y → Idle x j (windows (table-of (k .events) (j .window-table) b)) e y
-  table-idle j h x e y l m i = outcome-agree j (windows (table-of (k .events) (j .window-table) b)) (board b) (rw (h .holds .events-are) (agree (k .events) (j .window-table) b)) (sane-of (h .holds) fit) x e y l (rw (h .holds .events-are) m) ∙ i
+  table-idle j h x e y l m i = outcome-agree j (windows (table-of (k .events) (j .window-table) b)) (board b) (rw (h .holds .events-are) (agree (k .events) (j .window-table) b)) (lags-of (h .holds) fit) x e y l (rw (h .holds .events-are) m) ∙ i
 
   -- ---- a lag
 
   pub lag-passed : {g : ℕ} {t : Bool} → g < length ws / 3 → t ≡ lag-kept ws (board b) g → t ≡ true → Made k ws (λ j. lag-attempts j g) b buffer p b buffer p
   lag-passed {g} l m e =
       passed (λ j. lag-attempts j g) (λ j h.
-      let sane = sane-of (h .holds) fit in
       let there : g < lags j = rw (h .holds .lags-are) l in
       let both = lag-idle j (board b) g (rw (h .holds .lags-are) (sym m ∙ e)) in
-      let lag = sane .lag g there in
+      let lag = lags-of (h .holds) fit g there in
       (table-idle j h (rule 1) g _ there (rw (h .holds .events-are) at (lag .real-a)) (both .0), (table-idle j h (rule 2) g _ there (rw (h .holds .events-are) at (lag .real-b)) (both .1), tt)))
 
   -- ---- rules 3 to 14 in a view

@@ -25,7 +25,7 @@ use Rattle.tables.specs.Board.{Whole, board, table-of}
 use Rattle.tables.specs.Job.{Holds, Serves, Fit}
 use Rattle.tables.specs.declared.Job.{Job}
 use Rattle.tables.proofs.Board.{table-set, board-set-same, board-set-event, board-set-end}
-use Rattle.tables.proofs.Holding.{sane-of}
+use Rattle.tables.proofs.Holding.{lags-of}
 use Rattle.rules.specs.Values.{effect-of, is-idle, subjects-of, Narrower, Tries, Does}
 use Rattle.rules.specs.declared.Effect.{Effect as Done}
 use Rattle.facts.specs.Quotes.{cites-of, says-of, Cites}
@@ -272,7 +272,7 @@ module _ {k : Job} {ws b buffer : List ℤ} {p : Progress} {r e y : ℕ} (held :
         let on = still-running (status-of (p .status)) (sym h ∙ not-false t f) in
         let h = q .holds in
         let there : e < subjects (rule r) j = rw (← subjects-are h (rule r)) (tries .subject) in
-        let same = outcome-agree j (windows (table-of n (j .window-table) b)) (board b) (rw (h .events-are) (agree n (j .window-table) b)) (sane-of h (tries .fit)) (rule r) e y there (rw (h .events-are) (tries .target)) ∙ sym (does .is j q) in
+        let same = outcome-agree j (windows (table-of n (j .window-table) b)) (board b) (rw (h .events-are) (agree n (j .window-table) b)) (lags-of h (tries .fit)) (rule r) e y there (rw (h .events-are) (tries .target)) ∙ sym (does .is j q) in
         attempt-tried (length buffer) r j e y (state-of n (j .window-table) b buffer p) ∙ rw (on, same)
 
     -- It does nothing.

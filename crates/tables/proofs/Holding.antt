@@ -13,7 +13,7 @@ use Rattle.integers.proofs.Linear.{ints}
 use Rattle.model.specs.Job as model
 use Rattle.model.specs.Job.{End, t-min, t-max, h-min, h-max, Windows, windows, produces, consumes, events, sent}
 use Rattle.model.specs.View.{side, here, shown, seen}
-use Rattle.model.specs.Standing.{Sane, Standing}
+use Rattle.model.specs.Standing.{Sane, SaneLags, Standing}
 use Rattle.model.proofs.Levels.{kind-kept}
 use Rattle.tables.specs.Board.{board, Loaded}
 use Rattle.tables.specs.Job.{reservoir-of, Holds, board-call, Kinds, Serves, Fit}
@@ -31,19 +31,8 @@ module _ {k : Job} {ws : List ℤ} {j : model.Job} (h : Holds k ws j) where
     lag = rw (h .events-are, h .lags-are) at (s .lag);
   }
 
-  pub sane-of : Fit k ws → Sane j
-  sane-of f = record {
-    horizon-low = rw (h .horizon-is) (f .horizon-low);
-    horizon-high = rw (h .horizon-is) (f .horizon-high);
-    some-cage = rw (h .cages-are) (omega arith);
-    few-cages = rw (h .cages-are) (omega arith);
-    cage = λ c l. let z : c ≡ 0 = omega (arith, h .cages-are) in rw (z, h .reservoir-is) (f .cage);
-    cage-sign = λ y l. rw (h .home-is y l) (record { le = tt });
-    cage-real = λ y l. rw (h .home-is y l, h .cages-are) (omega arith);
-    few-events = rw (h .events-are) (f .few-events);
-    few-lags = rw (h .lags-are) (f .few-lags);
-    lag = rw (h .events-are, h .lags-are) (f .lag);
-  }
+  pub lags-of : Fit k ws → SaneLags j
+  lags-of f = rw (h .events-are, h .lags-are) (f .lag)
 
   -- Every event is at home in the one cage, and sees all others.
   pub home-same : (e : ℕ) → e < events j → model.home j e ≡ reservoir-of (k .reservoir)

@@ -21,11 +21,12 @@ reservoir-of c =
 abbrev pub cage-words : Reservoir → List ℤ
 cage-words c = c .low .0 ∷ c .high .0 ∷ c .initial .0 ∷ c .cover .0 ∷ []
 
--- The job of a call's words: H, cages, windows, lags.
-abbrev pub call : ℤ → List ℤ → List ℤ → List ℤ → model.Job
-call h cages table lags = record { horizon = h; cage-table = cages; window-table = table; lag-table = lags }
+-- The job of a call's words: H, cages, windows, lags, sets.
+abbrev pub call : ℤ → List ℤ → List ℤ → List ℤ → List ℤ → model.Job
+call h cages table lags sets =
+    record { horizon = h; cage-table = cages; window-table = table; lag-table = lags; set-table = sets }
 
--- The code's job with its lent lag words is a call's of one cage: all of it but the windows sent in, of which the code's has the number of events.
+-- The code's job with its lent lag words is a call's of one cage: all of it but the sets, and the windows sent in, of which the code's has the number of events.
 pub record Holds (k : Job) (ws : List ℤ) (j : model.Job) : Type 0 where
   pub horizon-is : j .horizon ≡ k .horizon .0
   pub cages-are : cages j ≡ 1
@@ -34,9 +35,9 @@ pub record Holds (k : Job) (ws : List ℤ) (j : model.Job) : Type 0 where
   pub events-are : events j ≡ k .events
   pub lags-are : j .lag-table ≡ ws
 
--- There is such a call for every board: the one with its window table, all events in the one cage.
+-- There is such a call for every board: the one with its window table, all events in the one cage, and no set.
 abbrev pub board-call : Job → List ℤ → List ℤ → model.Job
-board-call k ws b = call (k .horizon .0) (cage-words (k .reservoir)) (table-of (k .events) [] b) ws
+board-call k ws b = call (k .horizon .0) (cage-words (k .reservoir)) (table-of (k .events) [] b) ws []
 
 -- Of the first n events the same are deliveries on windows W and on X.
 abbrev pub Kinds : ℕ → Windows → Windows → Type 0
