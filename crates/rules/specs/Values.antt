@@ -11,7 +11,7 @@ use Rattle.model.specs.Job.{End, t-min, t-max, opposite, meets, Windows, lag-wo
 use Rattle.model.specs.Standing.{SaneLag, span, Ranged}
 use Rattle.model.specs.View.{View}
 use Rattle.model.specs.Levels.{e-min, most-in}
-use Rattle.model.specs.Rules.{Finding, nothing, clash, bound, given-if, Family, level, time, height, Rule, lag-upper, lag-lower, reservoir, family-rule, family-end, side-finding, rule, finding, own-end, Effect, idle, narrows, fails, effect}
+use Rattle.model.specs.Rules.{Finding, nothing, clash, bound, given-if, Family, level, time, height, Rule, lag-upper, lag-lower, reservoir, total, family-rule, family-end, side-finding, rule, finding, own-end, Effect, idle, narrows, fails, effect}
 use Rattle.tables.specs.Job.{Serves, Fit}
 use Rattle.tables.specs.declared.Job.{Job}
 use Rattle.levels.specs.Values.{as-view, seen-by}
@@ -80,11 +80,12 @@ pub record Lagged (ws : List ℤ) (W : Windows) (g : ℕ) : Type 0 where
   pub early : Within (W (natAbs (lag-word ws g 0)) t-min) 20000
   pub late : Within (W (natAbs (lag-word ws g 1)) t-max) 20000
 
--- The subjects that a rule has: lags, or events.
+-- The subjects that a rule of 1..14 has: lags, or events. Sets are no part of a job of one cage.
 abbrev pub subjects-of : Rule → Job → List ℤ → ℕ
 subjects-of lag-upper k ws = length ws / 3
 subjects-of lag-lower k ws = length ws / 3
 subjects-of (reservoir m b f) k ws = k .events
+subjects-of (total m) k ws = 0
 
 -- Rule r of 1..14 is tried on windows W, with a subject that it has and an event for target.
 pub record Tries (k : Job) (ws : List ℤ) (W : Windows) (r e y : ℕ) : Type 0 where
