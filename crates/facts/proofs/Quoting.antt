@@ -1,6 +1,6 @@
 -- Which facts a slip quotes and what it says of them, as `facts::premises` computes it.
 -- Assumes nothing.
-use mathlib.Core.Path.{_≡_, refl, sym, ap, _∙_}
+use mathlib.Core.Path.{_≡_, refl, sym, ap, subst, _∙_}
 use mathlib.Core.Bool.{Bool, true, false, not, cond, _&&_, _||_}
 use mathlib.Core.List.{List}
 use Prim.Native.Nat.{ℕ, zero, suc, _+_, _/_, _<_, _≤_}
@@ -13,12 +13,12 @@ use lib.ListN.{length}
 use Rattle.integers.specs.Range.{Within}
 use Rattle.integers.proofs.Linear.{ints, sub-law, neg-law}
 use Rattle.integers.proofs.Tests.{is-true}
-use Rattle.model.specs.Job.{End, t-min, t-max, h-min, h-max, Windows, Job as Call, events, produces, consumes}
+use Rattle.model.specs.Job.{End, t-min, t-max, h-min, h-max, Windows, Job as Call, events, produces, consumes, any, in-set}
 use Rattle.model.specs.Standing.{span}
-use Rattle.model.specs.View.{side, side-value, side-end, View, view, seen}
+use Rattle.model.specs.View.{side, side-value, side-end, View, view, seen, look}
 use Rattle.model.specs.Levels.{Place, sure, possible, never, place, e-min, e-max}
-use Rattle.model.specs.Rules.{Family, level, time, height, reservoir, rule, targeted, Effect, idle, narrows, fails, failed, is-narrowing}
-use Rattle.model.specs.Facts.{lag-cites, any, first-late, last-early, left-out, surely-consumed, late, early, latest, quotes-top, spares, drops, family-cites, family-says, quotes, quoted}
+use Rattle.model.specs.Rules.{Family, level, time, height, reservoir, total, rule, targeted, Effect, idle, narrows, fails, failed, is-narrowing}
+use Rattle.model.specs.Facts.{lag-cites, first-late, last-early, left-out, surely-consumed, late, early, latest, quotes-top, spares, drops, family-cites, family-says, total-cites, quotes, quoted}
 use Rattle.model.proofs.Agree.{at-hand, cites-agree, says-agree}
 use Rattle.tables.specs.Job.{reservoir-of, Serves, Fit}
 use Rattle.tables.specs.declared.Job.{Job}
@@ -28,10 +28,11 @@ use Rattle.levels.specs.declared.View.{View as Sight}
 use Rattle.levels.proofs.Viewing.{here-view, before-here, seen-here, view-here}
 use Rattle.rules.specs.Values.{family-of, effect-of}
 use Rattle.rules.specs.declared.Effect.{Effect as Done}
-use Rattle.facts.specs.Quotes.{Any, lag-cited, lag-said, height-cited, level-cited, level-said, LagCites, LevelCites, Cites, Quotes}
+use Rattle.facts.specs.Quotes.{Any, lag-cited, lag-said, height-cited, level-cited, level-said, total-cited, set-cited, LagCites, LevelCites, Cites, Shows, TotalCites, Quotes}
 use Rattle.facts.specs.declared.LagCiting.{LagCiting}
 use Rattle.facts.specs.declared.LevelCiting.{LevelCiting}
-use Rattle.facts.specs.declared.Citing.the-variants.{Lag, Level}
+use Rattle.facts.specs.declared.TotalCiting.{TotalCiting}
+use Rattle.facts.specs.declared.Citing.the-variants.{Lag, Level, Total}
 
 -- ---- the tests for one event
 
@@ -342,6 +343,63 @@ module _ {k : Job} {ws : List ℤ} (W : Windows) (r e y : ℕ) (x : Done) where
             let o = h .holds in
             l .says z i t ∙ rw (← p, s .is W, s .side-is) (ap (side-value m i) (sym (call-says m b e W h (rw (o .events-are) there) f (effect-of x) z (rw (o .events-are) n) (side-end m i))));
       }
+
+-- ---- a set's slip
+
+shown-neg : (t : Bool) (v : ℤ) → negℤ (cond t v (pos 0)) ≡ cond t (negℤ v) (pos 0)
+shown-neg true v = refl
+shown-neg false v = refl
+
+module _ (m : Bool) (y : ℕ) (f : Bool) where
+  abbrev total-held : TotalCiting
+  total-held = record { mirror = m; target = y; failed = f }
+
+module _ {n : ℕ} {own : ℕ → Bool} {W X : Windows} (s : Shows n own W X) (z : ℕ) (l : z < n) where
+  -- On a side the amount that is shown is the one that is looked at.
+  amount-shown : (m : Bool) → side m X z h-max ≡ look own m W z h-max
+  amount-shown true = ap negℤ (s .low z l) ∙ shown-neg (own z) (W z h-min)
+  amount-shown false = s .high z l
+
+  module _ (y : ℕ) (f : Bool) where
+    set-cites : (m : Bool) (k : End) → set-cited (total-held m y f) X z k ≡ total-cites (look own m W) y f z (side-end m k)
+    set-cites true t-min = refl
+    set-cites true t-max = refl
+    set-cites true h-min = ap (λ v. cond (eqb z y) f (consumes v || produces v)) (amount-shown true)
+    set-cites true h-max = refl
+    set-cites false t-min = refl
+    set-cites false t-max = refl
+    set-cites false h-min = refl
+    set-cites false h-max = ap (λ v. cond (eqb z y) f (consumes v || produces v)) (amount-shown false)
+
+    -- What is quoted is a member's: of the others only those that are not neutral, and the target is one.
+    quoted-own : (m : Bool) → own y ≡ true → T (total-cited (total-held m y f) X z) → own z ≡ true
+    quoted-own m member t = go (own z) (eqb z y) refl refl (subst (λ v. T (cond (eqb z y) f (consumes v || produces v))) (amount-shown m) t)
+      where
+        none : (m : Bool) → own z ≡ false → look own m W z h-max ≡ pos 0
+        none true e = rw e
+        none false e = rw e
+
+        go : (o q : Bool) → own z ≡ o → eqb z y ≡ q → T (cond q f (consumes (look own m W z h-max) || produces (look own m W z h-max))) → own z ≡ true
+        go true q e i t = e
+        go false true e i t = rw (eqb-true z y i) member
+        go false false e i t = absurd (rw (none m e) at t)
+
+    set-says : (m : Bool) → own y ≡ true → (k : End) → T (set-cited (total-held m y f) X z k) → X z k ≡ W z k
+    set-says m member t-min t = absurd t
+    set-says m member t-max t = absurd t
+    set-says true member h-min t = s .low z l ∙ rw (quoted-own true member t)
+    set-says true member h-max t = absurd t
+    set-says false member h-min t = absurd t
+    set-says false member h-max t = s .high z l ∙ rw (quoted-own false member t)
+
+pub cites-by-set : (m : Bool) (y : ℕ) {f : Bool} (x : Effect) → f ≡ failed x → TotalCites m y x (Total (total-held m y f))
+unfolding quotes quoted
+cites-by-set m y {f} x e =
+    record {
+      known = λ n. tt;
+      cites = λ j g n W X s z l k. set-cites s z l y f m k ∙ rw e;
+      says = λ j g n W X s o z l k t. set-says s z l y f m o k t;
+    }
 
 -- ---- ranges
 

@@ -1,15 +1,15 @@
 -- The facts of a slip as the code holds them: which are quoted and what is said of them, by the values made once for the slip.
 use mathlib.Core.Path.{_≡_}
-use mathlib.Core.Bool.{Bool, false, not, cond, _&&_}
+use mathlib.Core.Bool.{Bool, true, false, not, cond, _&&_, _||_}
 use mathlib.Core.List.{List}
 use Prim.Native.Nat.{ℕ, _<_}
 use lib.Dec.{T, eqb}
 use lib.IntN.{ℤ, pos, natAbs}
-use Rattle.model.specs.Job.{End, t-min, t-max, h-min, h-max, Windows, lag-word, Job as Call}
-use Rattle.model.specs.View.{side-end, side-value, View}
+use Rattle.model.specs.Job.{End, t-min, t-max, h-min, h-max, Windows, lag-word, Job as Call, any, produces, consumes, in-set}
+use Rattle.model.specs.View.{side, side-end, side-value, View}
 use Rattle.model.specs.Levels.{place}
-use Rattle.model.specs.Rules.{Family, rule, targeted, Effect}
-use Rattle.model.specs.Facts.{any, late, early, family-cites, family-says, quotes, quoted}
+use Rattle.model.specs.Rules.{Family, total, rule, targeted, Effect}
+use Rattle.model.specs.Facts.{late, early, family-cites, family-says, quotes, quoted}
 use Rattle.tables.specs.Job.{Serves}
 use Rattle.tables.specs.declared.Job.{Job}
 use Rattle.levels.specs.Values.{as-view, seen-by}
@@ -18,8 +18,9 @@ use Rattle.rules.specs.Values.{effect-of}
 use Rattle.rules.specs.declared.Effect.{Effect as Done}
 use Rattle.facts.specs.declared.LagCiting.{LagCiting}
 use Rattle.facts.specs.declared.LevelCiting.{LevelCiting}
+use Rattle.facts.specs.declared.TotalCiting.{TotalCiting}
 use Rattle.facts.specs.declared.Citing.{Citing}
-use Rattle.facts.specs.declared.Citing.the-variants.{Lag, Level}
+use Rattle.facts.specs.declared.Citing.the-variants.{Lag, Level, Total}
 use Rattle.facts.specs.declared.Others.{Others}
 use Rattle.facts.specs.declared.Quoted.{Quoted}
 
@@ -71,18 +72,33 @@ module _ (c : LevelCiting) (W : Windows) (z : ℕ) where
   level-said h-min = W z h-min
   level-said h-max = W z h-max
 
+-- A set's, on windows in which only the members have amounts.
+module _ (c : TotalCiting) (W : Windows) (z : ℕ) where
+  abbrev pub total-cited : Bool
+  total-cited =
+      cond (eqb z (c .target)) (c .failed) (consumes (side (c .mirror) W z h-max) || produces (side (c .mirror) W z h-max))
+
+  abbrev pub set-cited : End → Bool
+  set-cited t-min = false
+  set-cited t-max = false
+  set-cited h-min = c .mirror && total-cited
+  set-cited h-max = not (c .mirror) && total-cited
+
 abbrev pub cites-of : Citing → Windows → ℕ → End → Bool
 cites-of (Lag c) W z k = lag-cited c z k
 cites-of (Level c) W z k = level-cited c W z k
+cites-of (Total c) W z k = set-cited c W z k
 
 abbrev pub says-of : Citing → Windows → ℕ → End → ℤ
 says-of (Lag c) W z k = lag-said c z k
 says-of (Level c) W z k = level-said c W z k
+says-of (Total c) W z k = W z k
 
 -- The events of a lag's slip are events of n.
 abbrev pub Known : ℕ → Citing → Type 0
 Known n (Lag c) = (c .a < n) × (c .b < n)
 Known n (Level c) = Unit {0}
+Known n (Total c) = Unit {0}
 
 -- ---- of a rule
 
@@ -105,6 +121,17 @@ pub record Cites (k : Job) (ws : List ℤ) (W : Windows) (r e y : ℕ) (x : Done
   pub known : Known (k .events) c
   pub cites : (j : Call) → Serves k ws W j → (z : ℕ) → z < k .events → (l : End) → cites-of c W z l ≡ quotes (rule r) j W e y (effect-of x) z l
   pub says : (j : Call) → Serves k ws W j → (z : ℕ) → z < k .events → (l : End) → T (cites-of c W z l) → says-of c W z l ≡ quoted (rule r) j W e y (effect-of x) z l
+
+-- Of the first n events the windows X show the amounts of those of a test as they are in W, and 0 for the others.
+pub record Shows (n : ℕ) (own : ℕ → Bool) (W X : Windows) : Type 0 where
+  pub low : (z : ℕ) → z < n → X z h-min ≡ cond (own z) (W z h-min) (pos 0)
+  pub high : (z : ℕ) → z < n → X z h-max ≡ cond (own z) (W z h-max) (pos 0)
+
+-- c decides, on windows that show a set's members only, the facts of the slip of rule 17, in the mirror 18, with one of them, y, for target and effect x, whatever the set.
+pub record TotalCites (m : Bool) (y : ℕ) (x : Effect) (c : Citing) : Type 0 where
+  pub known : (n : ℕ) → Known n c
+  pub cites : (j : Call) (g n : ℕ) (W X : Windows) → Shows n (in-set j g) W X → (z : ℕ) → z < n → (k : End) → cites-of c X z k ≡ quotes (total m) j W g y x z k
+  pub says : (j : Call) (g n : ℕ) (W X : Windows) → Shows n (in-set j g) W X → in-set j g y ≡ true → (z : ℕ) → z < n → (k : End) → T (cites-of c X z k) → says-of c X z k ≡ quoted (total m) j W g y x z k
 
 -- Which facts of event z a reservoir rule's slip quotes.
 pub record Quotes (c : LevelCiting) (W : Windows) (z : ℕ) (f : Quoted) : Type 0 where

@@ -29,10 +29,18 @@ pub struct LevelCiting {
     pub target: usize,
 }
 
+// What decides the facts of a set's slip, of rule 17 or of its mirror 18: its target, and is it a conflict's? They are read off a board on which only the members have amounts.
+pub struct TotalCiting {
+    pub mirror: bool,
+    pub target: usize,
+    pub failed: bool,
+}
+
 // What decides the facts of one slip, made once.
 pub enum Citing {
     Lag(LagCiting),
     Level(LevelCiting),
+    Total(TotalCiting),
 }
 
 // Of events other than e: is one a pull that e's level surely counts, is one a delivery that it leaves out?

@@ -4,12 +4,14 @@ use crate::LagCiting;
 use crate::LevelCiting;
 use crate::Others;
 use crate::Quoted;
+use crate::TotalCiting;
 use levels::Place;
 use levels::View;
 use levels::places::consumes;
 use levels::places::minute_after;
 use levels::places::minute_before;
 use levels::places::produces;
+use levels::places::side_h_max;
 use levels::views::e_max;
 use levels::views::e_min;
 use levels::views::place;
@@ -39,7 +41,7 @@ ghost use Rattle.model.specs.Facts.{first-late, last-early, left-out, surely-co
 ghost use Rattle.tables.specs.Board.{board};
 ghost use Rattle.levels.specs.Values.{place-of, as-view, seen-by};
 ghost use Rattle.rules.specs.Values.{family-of, effect-of, Lagged, Tries, Does};
-ghost use Rattle.facts.specs.Quotes.{Other, Any, LevelCites, LagCites, Cites, Quotes};
+ghost use Rattle.facts.specs.Quotes.{total-cited, Other, Any, LevelCites, LagCites, Cites, TotalCites, Quotes};
 
 // ---- the tests for one event
 
@@ -256,4 +258,30 @@ pub fn quoted(b: &[i32; 256], c: LevelCiting, z: usize) -> Quoted
         upper: own & c.ends | !own & taken,
         height: !(c.spares & (z == target)) & counted,
     }
+}
+
+// ---- a set's slip
+
+// What decides the facts of the slip of rule 17, in its mirror 18, with target y and effect x.
+pub fn total_citing(mirror: bool, y: usize, x: Effect) -> Citing
+    ensures { λ c. ⌜ TotalCites mirror y (effect-of x) c ⌝ }
+{
+    Citing::Total(TotalCiting {
+        mirror: mirror,
+        target: y,
+        failed: has_failed(x),
+    })
+}
+
+// Does it quote the amount of event z: the target's in a conflict, of the others those that are not neutral?
+pub fn total_quoted(b: &[i32; 256], c: TotalCiting, z: usize) -> bool
+    requires { ⌜ (z < 64) × Within (board (now b) z h-min) 9999 ⌝ }
+    ensures { λ r. ⌜ r ≡ total-cited c (board (now (b .entry))) z ⌝ }
+{
+    let target = c.target;
+    if z == target {
+        return c.failed;
+    }
+    let h = side_h_max(b, c.mirror, z);
+    consumes(h) | produces(h)
 }
