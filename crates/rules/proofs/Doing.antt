@@ -4,6 +4,8 @@ use mathlib.Core.Path.{_≡_, refl, _∙_}
 use mathlib.Core.Bool.{Bool, true, false}
 use Prim.Native.Nat.{ℕ, zero, suc, _<_, _≤_}
 use native.Mathlib.Omega.{arith}
+use borrow.Author.Tests.{ltb-true, ltb-false}
+use lib.Dec.{ltb}
 use lib.IntN.{ℤ}
 use lib.Signed.{leZ}
 use Rattle.integers.specs.Range.{Within}
@@ -34,6 +36,20 @@ end-upper r p = rw p
 
 pub end-lower : (r : ℕ) → r ≡ 2 → own-end (rule r) ≡ t-min
 end-lower r p = rw p
+
+pub end-least : (r : ℕ) → r ≡ 17 → own-end (rule r) ≡ h-min
+end-least r p = rw p
+
+pub end-most : (r : ℕ) → r ≡ 18 → own-end (rule r) ≡ h-max
+end-most r p = rw p
+
+-- 15 and 16.
+pub end-held : (r : ℕ) → 14 < r → r ≤ 18 → (r ≡ 17 → ⊥) → (r ≡ 18 → ⊥) → own-end (rule r) ≡ t-max
+end-held r l h a b = go (ltb r 16) refl
+  where
+    go : (t : Bool) → ltb r 16 ≡ t → own-end (rule r) ≡ t-max
+    go true e = let p : r ≡ 15 = omega (arith, ltb-true) in rw p
+    go false e = let p : r ≡ 16 = omega (arith, ltb-false) in rw p
 
 module _ (m s : Bool) (k : ℕ) {q : Rule} (is : reservoir m s (family-of k) ≡ q) where
   pub end-time : k < 2 → own-end q ≡ t-min

@@ -33,9 +33,9 @@ pub fn rule_view(k: Job, v: Variant, e: usize) -> View
     view(k.reservoir, k.events, v.mirror, v.strict, e)
 }
 
-// The kind of rule r's bounds: 1 t ≥, 2 t ≤, 3 h ≥, 4 h ≤.
+// The kind of rule r's bounds: 1 t ≥, 2 t ≤, 3 h ≥, 4 h ≤. 15 and 16 are no rules: rule 1 stands in their places.
 pub fn own_kind(r: usize) -> usize
-    requires { ⌜ (1 ≤ r) × (r ≤ 14) ⌝ }
+    requires { ⌜ (1 ≤ r) × (r ≤ 18) ⌝ }
     ensures { λ k. ⌜ (k ≡ number (own-end (rule r))) × (end k ≡ own-end (rule r)) × (1 ≤ k) × (k ≤ 4) ⌝ }
 {
     if r == 1 {
@@ -43,6 +43,15 @@ pub fn own_kind(r: usize) -> usize
     }
     if r == 2 {
         return 1;
+    }
+    if r == 17 {
+        return 3;
+    }
+    if r == 18 {
+        return 4;
+    }
+    if r > 14 {
+        return 2;
     }
     let v = variant(r);
     if v.family < 2 {
