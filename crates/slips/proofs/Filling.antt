@@ -15,17 +15,18 @@ use lib.ListN.{length, take, set, length-append, length-set}
 use mir.Val.{boolByte}
 use lib.Seq.{take-suc-set, drop-set-lt, drop-drop}
 use Rattle.integers.proofs.Tests.{decide}
-use Rattle.model.specs.Job.{End, t-min, t-max, h-min, h-max, Windows, Job as Call, events}
-use Rattle.model.specs.Rules.{rule}
+use Rattle.model.specs.Job.{End, t-min, t-max, h-min, h-max, Windows, Job as Call, events, in-set}
+use Rattle.model.specs.Rules.{Effect, total, rule}
 use Rattle.model.specs.Facts.{quotes, quoted}
 use Rattle.model.specs.Slips.{Premise, number, end, premise-words, quote, premise-list}
 use Rattle.tables.specs.Job.{Serves}
 use Rattle.tables.specs.declared.Job.{Job}
 use Rattle.rules.specs.Values.{effect-of}
 use Rattle.rules.specs.declared.Effect.{Effect as Done}
-use Rattle.facts.specs.Quotes.{lag-cited, lag-said, height-cited, level-cited, level-said, cites-of, says-of, Cites}
+use Rattle.facts.specs.Quotes.{lag-cited, lag-said, height-cited, level-cited, level-said, total-cited, set-cited, cites-of, says-of, Cites, Shows, TotalCites}
 use Rattle.facts.specs.declared.LagCiting.{LagCiting}
 use Rattle.facts.specs.declared.LevelCiting.{LevelCiting}
+use Rattle.facts.specs.declared.TotalCiting.{TotalCiting}
 use Rattle.facts.specs.declared.Citing.{Citing}
 use Rattle.slips.specs.Words.{words-if, premises-of, lag-words, Appended}
 
@@ -147,6 +148,20 @@ module _ (c : LevelCiting) (W : Windows) (z : ℕ) {l u t : Bool} (low : l ≡ l
       let o : _ ≡ cond (c .view .mirror) (W z h-min) (W z h-max) = s ∙ rw r (height-word (c .view .mirror) W z) in
       rw (quotes-words (c .view .mirror) (level-cited c W z t-min) (level-cited c W z t-max) (height-cited c W z) z (level-said c W z t-min) (level-said c W z t-max) (W z h-min) (W z h-max), ← low, ← high, ← tall, ← p, ← q, ← r, ← o)
       (appended-both f (appended-both g h))
+
+-- One event of a set's slip.
+module _ (c : TotalCiting) (W : Windows) (z : ℕ) {t : Bool} (tall : t ≡ total-cited c W z) where
+  pub member-count : length (premises-of (set-cited c W) W z) ≡ cond t 1 0
+  member-count =
+      let d = quote-length (set-cited c W z h-min) z h-min (W z h-min) in
+      let f = quote-length (set-cited c W z h-max) z h-max (W z h-max) in
+      let e = one-height (c .mirror) (total-cited c W z) in
+      rw tall (simp length-append (omega arith))
+
+  pub member-appended : {at k kind : ℕ} {v : ℤ} {d d′ : List ℤ} → kind ≡ cond (c .mirror) 3 4 → v ≡ W z (end kind) → Appended at (words-if t z kind v) d d′ k → Appended at (premise-words (premises-of (set-cited c W) W z)) d d′ k
+  member-appended r s h =
+      let o : _ ≡ cond (c .mirror) (W z h-min) (W z h-max) = s ∙ rw r (height-word (c .mirror) W z) in
+      rw (quotes-words (c .mirror) false false (total-cited c W z) z (W z t-min) (W z t-max) (W z h-min) (W z h-max), ← tall, ← r, ← o) h
 
 -- ---- all events
 module _ (c : ℕ → End → Bool) (v : ℕ → End → ℤ) where
@@ -297,3 +312,9 @@ pub same-premises : {k : Job} {ws : List ℤ} {W : Windows} {r e y : ℕ} {x : D
 same-premises {k} {ws} {W} {r} {e} {y} {x} {c} j h s =
     rw (h .holds .events-are)
     (list-same (k .events) (cites-of c W) (quotes (rule r) j W e y (effect-of x)) (says-of c W) (quoted (rule r) j W e y (effect-of x)) (s .cites j h) (s .says j h))
+
+-- The same of a set's slip, on windows that show its members only.
+pub set-premises : {m : Bool} {y : ℕ} {x : Effect} {c : Citing} (j : Call) (g : ℕ) (W X : Windows) → TotalCites m y x c → Shows (events j) (in-set j g) W X → in-set j g y ≡ true →
+    premise-list (events j) (cites-of c X) (says-of c X) ≡ premise-list (events j) (quotes (total m) j W g y x) (quoted (total m) j W g y x)
+set-premises {m} {y} {x} {c} j g W X s shows o =
+    list-same (events j) (cites-of c X) (quotes (total m) j W g y x) (says-of c X) (quoted (total m) j W g y x) (s .cites j g (events j) W X shows) (s .says j g (events j) W X shows o)

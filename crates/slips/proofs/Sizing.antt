@@ -3,6 +3,7 @@
 use mathlib.Core.Path.{_≡_, refl, sym, _∙_}
 use mathlib.Core.Bool.{Bool, true, false, not, _&&_}
 use mathlib.Core.List.{List}
+use mathlib.Core.Logic.{⊎-elim}
 use Prim.Native.Nat.{ℕ, _+_, _*_, _<_, _≤_}
 use lib.Dec.{T, leb, leb→le}
 use lib.IntN.{ℤ, pos, negsuc, natAbs}
@@ -12,7 +13,7 @@ use native.Mathlib.Omega.{arith}
 use borrow.Author.Tests.{le-leb, lt-leb, not-true, not-false}
 use Rattle.integers.specs.Range.{eqZ}
 use Rattle.integers.proofs.Linear.{ints}
-use Rattle.integers.proofs.Tests.{and-yes, and-no, and-out, is-true}
+use Rattle.integers.proofs.Tests.{and-yes, and-no, and-out, or-out, is-true}
 use Rattle.model.specs.Questions.{in-range}
 use Rattle.model.specs.Rules.{known-rule}
 use Rattle.model.specs.Slips.{slip-length, at, premise-count, slip-at}
@@ -33,7 +34,10 @@ module _ (list : List ℤ) (stop p m : ℕ) where
 -- ---- 13, test by test
 
 rule-natural : (w : ℤ) → T (known-rule w) → T (leZ (pos 0) w)
-rule-natural w t = let a = and-out (leZ (pos 1) w) (leZ w (pos 14)) t .0 in omega ints
+rule-natural w t =
+    ⊎-elim (λ h. let a = and-out (leZ (pos 1) w) (leZ w (pos 14)) h .0 in omega ints)
+    (λ h. let a = and-out (leZ (pos 17) w) (leZ w (pos 18)) h .0 in omega ints)
+    (or-out (leZ (pos 1) w && leZ w (pos 14)) (leZ (pos 17) w && leZ w (pos 18)) t)
 
 pub few-natural : (w : ℤ) → T (in-range (pos 0) (pos 256) w) → (natAbs w ≤ 256) × T (leZ (pos 0) w)
 few-natural (pos n) t =
@@ -105,16 +109,32 @@ module _ (list : List ℤ) (stop p : ℕ) where
       rw (is-true (whole list stop p) t, a, natural (at list p) low, b, c, d, e, f, g, h)
 
 -- a test of a word that was read
+pub unknown-at : (v : ℤ) {w : ℤ} {t : Bool} → t ≡ known-rule w → w ≡ v → not t ≡ true → known-rule v ≡ false
+unknown-at v e f g = sym (rw f at e) ∙ not-true _ g
+
+pub known-at : (v : ℤ) {w : ℤ} {t : Bool} → t ≡ known-rule w → w ≡ v → not t ≡ false → known-rule v ≡ true
+known-at v e f g = sym (rw f at e) ∙ not-false _ g
+
 pub fails-at : (low high v : ℤ) {w : ℤ} {t : Bool} → t ≡ in-range low high w → w ≡ v → not t ≡ true → in-range low high v ≡ false
 fails-at low high v e f g = sym (rw f at e) ∙ not-true _ g
 
 pub holds-at : (low high v : ℤ) {w : ℤ} {t : Bool} → t ≡ in-range low high w → w ≡ v → not t ≡ false → in-range low high v ≡ true
 holds-at low high v e f g = sym (rw f at e) ∙ not-false _ g
 
-rule-range : (w : ℤ) → T (known-rule w) → (1 ≤ natAbs w) × (natAbs w ≤ 14)
+rule-range : (w : ℤ) → T (known-rule w) → (1 ≤ natAbs w) × (natAbs w ≤ 18) × (14 < natAbs w → 17 ≤ natAbs w)
 rule-range (pos n) t =
-    let o = and-out (leZ (pos 1) (pos n)) (leZ (pos n) (pos 14)) t in
-    (leb→le 1 n (o .0), leb→le n 14 (o .1))
+    ⊎-elim
+    (λ h.
+    let o = and-out (leZ (pos 1) (pos n)) (leZ (pos n) (pos 14)) h in
+    let low = leb→le 1 n (o .0) in
+    let high = leb→le n 14 (o .1) in
+    (low, omega arith, λ l. absurd (omega arith)))
+    (λ h.
+    let o = and-out (leZ (pos 17) (pos n)) (leZ (pos n) (pos 18)) h in
+    let low = leb→le 17 n (o .0) in
+    let high = leb→le n 18 (o .1) in
+    (omega arith, high, λ l. low))
+    (or-out (leZ (pos 1) (pos n) && leZ (pos n) (pos 14)) (leZ (pos 17) (pos n) && leZ (pos n) (pos 18)) t)
 rule-range (negsuc n) t = absurd t
 
 pub stands-is : (list : List ℤ) (stop p : ℕ) (s : Slip) (next : ℕ) → stop ≤ length list → Sized list stop p →
@@ -123,4 +143,4 @@ stands-is list stop p s next h z r f m e =
     let o = rule-range (at list p) (z .rule) in
     let a = z .few in
     let b = z .ends in
-    (record { rule-low = rw r (o .0); rule-high = rw r (o .1); few = rw m a; inside = rw (f, m) (omega arith) }, rw e b)
+    (record { rule-low = rw r (o .0); rule-high = rw r (o .1); rule-apart = rw r (o .2); few = rw m a; inside = rw (f, m) (omega arith) }, rw e b)

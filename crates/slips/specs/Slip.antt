@@ -1,7 +1,7 @@
 -- A slip as the code writes it, and as it is read from a list: its header, and where its facts stand.
 use mathlib.Core.Path.{_≡_}
 use mathlib.Core.List.{List}
-use Prim.Native.Nat.{ℕ, _+_, _*_, _≤_}
+use Prim.Native.Nat.{ℕ, _+_, _*_, _≤_, _<_}
 use lib.Dec.{T}
 use lib.IntN.{ℤ, pos}
 use lib.ListN.{length}
@@ -41,7 +41,7 @@ pub record Writes (n : ℕ) (W : Windows) (c : Citing) (r e y : ℕ) : Type 0 wh
   pub ranged : Ranged n W
   pub known : Known n c
   pub first : 1 ≤ r
-  pub last : r ≤ 14
+  pub last : r ≤ 18
   pub subject : e ≤ 256
   pub target : y ≤ 64
 
@@ -81,7 +81,8 @@ pub record Sized (list : List ℤ) (stop p : ℕ) : Type 0 where
 -- A slip that was read, standing in the list with all its facts.
 pub record Stands (list : List ℤ) (s : Slip) : Type 0 where
   pub rule-low : 1 ≤ s .rule
-  pub rule-high : s .rule ≤ 14
+  pub rule-high : s .rule ≤ 18
+  pub rule-apart : 14 < s .rule → 17 ≤ s .rule
   pub few : s .count ≤ 256
   pub inside : s .facts + 3 * s .count ≤ length list
 

@@ -31,7 +31,7 @@ pub fn append_trailer(buffer: &mut [i32], at: usize, slips: usize, last: usize) 
 
 // What a slip concludes with: the kind of its bound, or 0 for a conflict.
 pub fn concluded_kind(r: usize, x: Effect) -> usize
-    requires { ⌜ (1 ≤ r) × (r ≤ 14) ⌝ }
+    requires { ⌜ (1 ≤ r) × (r ≤ 18) ⌝ }
     ensures { λ k. ⌜ (k ≡ concluded-kind (rule r) (effect-of x)) × (k ≤ 4) ⌝ }
 {
     match x {
@@ -62,7 +62,7 @@ fn append_head(
     x: Effect,
     count: usize,
 ) -> usize
-    requires { ⌜ (at + 6 ≤ length (now buffer)) × (1 ≤ r) × (r ≤ 14) × (e ≤ 256) × (y ≤ 64) × (count ≤ 256) ⌝ }
+    requires { ⌜ (at + 6 ≤ length (now buffer)) × (1 ≤ r) × (r ≤ 18) × (e ≤ 256) × (y ≤ 64) × (count ≤ 256) ⌝ }
     ensures { λ end. ⌜
         Appended at
         (pos r ∷ pos e ∷ pos y ∷ pos (concluded-kind (rule r) (effect-of x)) ∷ concluded-value (effect-of x) ∷ pos count ∷ [])

@@ -8,12 +8,14 @@ use crate::words::between;
 use crate::words::index;
 use crate::words::word_at;
 use crate::words::word_is;
+use tables::Word;
 ghost use mathlib.Core.Path.{_≡_};
 ghost use mathlib.Core.Bool.{_&&_};
 ghost use Prim.Native.Nat.{_+_, _*_, _≤_};
 ghost use lib.Dec.{leb};
 ghost use lib.IntN.{pos};
 ghost use Rattle.integers.specs.Range.{eqZ};
+ghost use Rattle.model.specs.Rules.{known-rule};
 ghost use Rattle.model.specs.Slips.{slip-length, at};
 ghost use Rattle.model.specs.Reader.{whole, reading};
 ghost use Rattle.slips.specs.Slip.{Sized, reading-of, Placed, premise-of, premise-at, Trails};
@@ -35,7 +37,14 @@ fn closes(list: &[i32], stop: usize, p: usize, count: usize) -> bool
     word_is(last, size)
 }
 
-// 13. Is the slip at p whole before the trailer, rule 1..14, 0 to 256 facts, length right?
+// Is the word the number of a rule: 1..14, 17 or 18?
+fn is_rule(w: Word) -> bool
+    ensures { λ r. ⌜ r ≡ known-rule (w .0) ⌝ }
+{
+    between(w, 1, 14) | between(w, 17, 18)
+}
+
+// 13. Is the slip at p whole before the trailer, its rule known, 0 to 256 facts, length right?
 fn is_whole(list: &[i32], stop: usize, p: usize) -> bool
     requires { do ⌜ (p ≤ stop) × (stop ≤ (← ⟦list.len()⟧)) ⌝ }
     ensures { λ r. ⌜ r ≡ whole (now (list .entry)) stop p ⌝ }
@@ -44,7 +53,7 @@ fn is_whole(list: &[i32], stop: usize, p: usize) -> bool
         return false;
     }
     let rule = word_at(list, p);
-    if !between(rule, 1, 14) {
+    if !is_rule(rule) {
         return false;
     }
     let count = word_at(list, p + 5);

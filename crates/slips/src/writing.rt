@@ -5,8 +5,10 @@ use facts::Citing;
 use facts::LagCiting;
 use facts::LevelCiting;
 use facts::Quoted;
+use facts::TotalCiting;
 use facts::premises::quoted;
 use facts::premises::surely_consumed;
+use facts::premises::total_quoted;
 use levels::places::produces;
 use levels::views::place;
 use levels::views::seen_h_max;
@@ -23,7 +25,7 @@ ghost use Rattle.model.specs.Job.{h-min};
 ghost use Rattle.model.specs.Standing.{Ranged};
 ghost use Rattle.model.specs.Slips.{premise-words, premise-list};
 ghost use Rattle.tables.specs.Board.{board};
-ghost use Rattle.facts.specs.Quotes.{level-cited, level-said, cites-of, says-of, Known, Quotes};
+ghost use Rattle.facts.specs.Quotes.{level-cited, level-said, set-cited, cites-of, says-of, Known, Quotes};
 ghost use Rattle.slips.specs.Words.{words-if, premises-of, lag-words, Appended};
 
 // ---- counted
@@ -55,6 +57,20 @@ fn count_events(b: &[i32; 256], n: usize, c: LevelCiting) -> usize
     count
 }
 
+// The number of facts of a set's slip, of n events: at most one of each.
+fn count_members(b: &[i32; 256], n: usize, c: TotalCiting) -> usize
+    requires { ⌜ Ranged n (board (now b)) ⌝ }
+    ensures { λ r. ⌜ r ≡ length (premise-list n (set-cited c (board (now (b .entry)))) (board (now (b .entry)))) ⌝ }
+{
+    let mut count: usize = 0;
+    let mut z: usize = 0;
+    while z < n {
+        count += one(total_quoted(b, c, z));
+        z += 1;
+    }
+    count
+}
+
 // The number of facts of a slip, of n events.
 pub fn count_premises(b: &[i32; 256], n: usize, cited: Citing) -> usize
     requires { ⌜ Ranged n (board (now b)) × Known n cited ⌝ }
@@ -63,6 +79,7 @@ pub fn count_premises(b: &[i32; 256], n: usize, cited: Citing) -> usize
     match cited {
         Citing::Lag(c) => one(c.starts) + one(c.ends),
         Citing::Level(c) => count_events(b, n, c),
+        Citing::Total(c) => count_members(b, n, c),
     }
 }
 
@@ -215,6 +232,43 @@ fn write_events(d: &mut [i32], at: usize, b: &[i32; 256], n: usize, c: LevelCiti
     place
 }
 
+// The fact of one event in a set's slip appended, if it is quoted.
+fn write_member(d: &mut [i32], at: usize, b: &[i32; 256], c: TotalCiting, z: usize) -> usize
+    requires { ⌜
+        (z < 64)
+        × Within (board (now b) z h-min) 9999
+        × (at + 3 * length (premises-of (set-cited c (board (now b))) (board (now b)) z) ≤ length (now d))
+        ⌝ }
+    ensures { λ end. ⌜
+        Appended at (premise-words (premises-of (set-cited c (board (now (b .entry)))) (board (now (b .entry))) z))
+        (now (d .entry)) (now (d .exit)) end
+        ⌝ }
+{
+    let kind = height_kind(c.mirror);
+    let h = end_at(b, kind, z);
+    put_premise(d, at, total_quoted(b, c, z), z, kind, h)
+}
+
+// Those of n events, event by event.
+fn write_members(d: &mut [i32], at: usize, b: &[i32; 256], n: usize, c: TotalCiting) -> usize
+    requires { ⌜
+        Ranged n (board (now b))
+        × (at + 3 * length (premise-list n (set-cited c (board (now b))) (board (now b))) ≤ length (now d))
+        ⌝ }
+    ensures { λ end. ⌜
+        Appended at (premise-words (premise-list n (set-cited c (board (now (b .entry)))) (board (now (b .entry)))))
+        (now (d .entry)) (now (d .exit)) end
+        ⌝ }
+{
+    let mut place = at;
+    let mut z: usize = 0;
+    while z < n {
+        place = write_member(d, place, b, c, z);
+        z += 1;
+    }
+    place
+}
+
 // A lag's two facts appended: t ≥ of a first where a comes no later than b, else t ≤ of b.
 fn write_lag(d: &mut [i32], at: usize, c: LagCiting) -> usize
     requires { ⌜ (at + 3 * (cond (c .starts) 1 0 + cond (c .ends) 1 0) ≤ length (now d)) × (c .a < 64) × (c .b < 64) ⌝ }
@@ -233,7 +287,7 @@ fn write_lag(d: &mut [i32], at: usize, c: LagCiting) -> usize
     }
 }
 
-// The facts of a slip of n events appended: a lag's at once, a reservoir rule's event by event.
+// The facts of a slip of n events appended: a lag's at once, a reservoir rule's and a set's event by event.
 pub fn write_premises(d: &mut [i32], at: usize, b: &[i32; 256], n: usize, cited: Citing) -> usize
     requires { ⌜
         Ranged n (board (now b))
@@ -248,5 +302,6 @@ pub fn write_premises(d: &mut [i32], at: usize, b: &[i32; 256], n: usize, cited:
     match cited {
         Citing::Lag(c) => write_lag(d, at, c),
         Citing::Level(c) => write_events(d, at, b, n, c),
+        Citing::Total(c) => write_members(d, at, b, n, c),
     }
 }

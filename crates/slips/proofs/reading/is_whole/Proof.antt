@@ -1,6 +1,6 @@
 -- `slips::reading::is_whole` meets its contract.
 -- Assumes nothing.
-use Rattle.slips.proofs.Sizing.{fails-at, holds-at}
+use Rattle.slips.proofs.Sizing.{fails-at, holds-at, unknown-at, known-at}
 use Rattle.integers.proofs.Tests.{true-is}
 use lib.IntN.{pos}
 use mathlib.Core.Path.{refl}
@@ -19,15 +19,15 @@ returns c = let a = c .before .args in not-room (a .list .now) (a .stop) (a .p) 
 word-at-requires : tie.Need-word-at-requires
 word-at-requires c κs = search needs
 
-between-requires : tie.Need-between-requires
-between-requires c κs = search needs
+is-rule-requires : tie.Need-is-rule-requires
+is-rule-requires c κs = search needs
 
 returns-2 : tie.Need-returns-2
 returns-2 c =
     let s = c .before .before .before .before in
     let a = s .args in
     not-rule (a .list .now) (a .stop) (a .p)
-    (fails-at (pos 1) (pos 14) _ (c .before .between .ensures) (c .before .before .word-at .ensures) (c .if2 .taken)) (omega arith)
+    (unknown-at _ (c .before .is-rule .ensures) (c .before .before .word-at .ensures) (c .if2 .taken)) (omega arith)
 
 add-word-at : tie.Need-add-word-at
 add-word-at c = search needs
@@ -35,21 +35,21 @@ add-word-at c = search needs
 word-at-requires-2 : tie.Need-word-at-requires-2
 word-at-requires-2 c κs = search needs
 
-between-requires-2 : tie.Need-between-requires-2
-between-requires-2 c κs = search needs
+between-requires : tie.Need-between-requires
+between-requires c κs = search needs
 
 returns-3 : tie.Need-returns-3
 returns-3 c =
     let s = c .before .before .before .before .before .before .before in
     let a = s .args in
     not-count (a .list .now) (a .stop) (a .p)
-    (fails-at (pos 0) (pos 256) _ (c .before .between2 .ensures) (c .before .before .word-at2 .ensures) (c .if3 .taken))
-    (holds-at (pos 1) (pos 14) _ (c .before .before .before .before .between .ensures) (c .before .before .before .before .before .word-at .ensures)
+    (fails-at (pos 0) (pos 256) _ (c .before .between .ensures) (c .before .before .word-at2 .ensures) (c .if3 .taken))
+    (known-at _ (c .before .before .before .before .is-rule .ensures) (c .before .before .before .before .before .word-at .ensures)
     (c .before .before .before .if2 .left))
     (omega arith)
 
 index-requires : tie.Need-index-requires
-index-requires c κs = few-natural (c .before .before .word-at2 .result .0) (true-is (holds-at (pos 0) (pos 256) (c .before .before .word-at2 .result .0) (c .before .between2 .ensures) refl (c .if3 .left))) .1
+index-requires c κs = few-natural (c .before .before .word-at2 .result .0) (true-is (holds-at (pos 0) (pos 256) (c .before .before .word-at2 .result .0) (c .before .between .ensures) refl (c .if3 .left))) .1
 
 closes-requires : tie.Need-closes-requires
 closes-requires c κs =
@@ -59,7 +59,7 @@ closes-requires c κs =
       omega arith,
       rw (c .index .ensures)
           (few-natural (c .before .before .before .word-at2 .result .0)
-          (true-is (holds-at (pos 0) (pos 256) (c .before .before .before .word-at2 .result .0) (c .before .before .between2 .ensures) refl (c .before .if3 .left))) .0),
+          (true-is (holds-at (pos 0) (pos 256) (c .before .before .before .word-at2 .result .0) (c .before .before .between .ensures) refl (c .before .if3 .left))) .0),
     )
 
 returns-4 : tie.Need-returns-4
@@ -67,8 +67,8 @@ returns-4 c =
     let s = c .before .before .before .before .before .before .before .before .before in
     let a = s .args in
     all-hold (a .list .now) (a .stop) (a .p)
-    (holds-at (pos 0) (pos 256) _ (c .before .before .before .between2 .ensures) (c .before .before .before .before .word-at2 .ensures) (c .before .before .if3 .left))
-    (holds-at (pos 1) (pos 14) _ (c .before .before .before .before .before .before .between .ensures)
+    (holds-at (pos 0) (pos 256) _ (c .before .before .before .between .ensures) (c .before .before .before .before .word-at2 .ensures) (c .before .before .if3 .left))
+    (known-at _ (c .before .before .before .before .before .before .is-rule .ensures)
     (c .before .before .before .before .before .before .before .word-at .ensures) (c .before .before .before .before .before .if2 .left))
     (omega arith) (rw (rw (c .before .before .before .before .word-at2 .ensures) at (c .before .index .ensures)) at (c .closes .ensures))
 
@@ -79,11 +79,11 @@ is-whole-spec =
     sub-if1
     returns
     word-at-requires
-    between-requires
+    is-rule-requires
     returns-2
     add-word-at
     word-at-requires-2
-    between-requires-2
+    between-requires
     returns-3
     index-requires
     closes-requires

@@ -1,4 +1,4 @@
--- `slips::writing::count_premises` counts a lag's two facts, or those of all events. Assumes nothing.
+-- `slips::writing::count_premises` counts a lag's two facts, those of all events, or a set's. Assumes nothing.
 use borrow.Author.Needs.{needs}
 use Rattle.slips.proofs.Filling.{lag-length}
 use Rattle.slips.proofs.writing.count_premises.Statement.{statement}
@@ -22,6 +22,12 @@ enum-known-cited-2 c = search needs
 count-events-requires : tie.Need-count-events-requires
 count-events-requires c κs = search needs
 
+enum-known-cited-3 : tie.Need-enum-known-cited-3
+enum-known-cited-3 c = search needs
+
+count-members-requires : tie.Need-count-members-requires
+count-members-requires c κs = search needs
+
 returns : tie.Need-returns
 returns c =
     let a = c .before .before .before .before .before .args in
@@ -30,6 +36,9 @@ returns c =
 
 returns-2 : tie.Need-returns-2
 returns-2 c = rw (c .before .before .cited2 .given .1) (c .count-events .ensures)
+
+returns-3 : tie.Need-returns-3
+returns-3 c = rw (c .before .before .cited3 .given .1) (c .count-members .ensures)
 
 pub count-premises-spec : {M : Type 1} → statement M
 count-premises-spec =
@@ -41,5 +50,8 @@ count-premises-spec =
     add-result
     enum-known-cited-2
     count-events-requires
+    enum-known-cited-3
+    count-members-requires
     returns
-    returns-2)
+    returns-2
+    returns-3)

@@ -1,4 +1,4 @@
--- `slips::writing::write_premises` appends a lag's facts at once, else those of all events. Assumes nothing.
+-- `slips::writing::write_premises` appends a lag's facts at once, else those of all events or a set's. Assumes nothing.
 use borrow.Author.Needs.{needs}
 use native.Mathlib.Omega.{arith}
 use Rattle.slips.proofs.Filling.{lag-listed, lag-length}
@@ -23,6 +23,12 @@ enum-known-cited-2 c = search needs
 write-events-requires : tie.Need-write-events-requires
 write-events-requires c κs = (c .before .before .before .before .pre .0, rw (c .before .before .cited2 .given .1) at (c .before .before .before .before .pre .2))
 
+enum-known-cited-3 : tie.Need-enum-known-cited-3
+enum-known-cited-3 c = search needs
+
+write-members-requires : tie.Need-write-members-requires
+write-members-requires c κs = (c .before .before .before .before .pre .0, rw (c .before .before .cited3 .given .1) at (c .before .before .before .before .pre .2))
+
 same-length : tie.Need-same-length
 same-length c = search needs
 
@@ -35,6 +41,12 @@ same-length-2 c = search needs
 returns-2 : tie.Need-returns-2
 returns-2 c = rw (c .before .before .before .before .cited2 .given .1) (c .before .write-events .ensures)
 
+same-length-3 : tie.Need-same-length-3
+same-length-3 c = search needs
+
+returns-3 : tie.Need-returns-3
+returns-3 c = rw (c .before .before .before .before .cited3 .given .1) (c .before .write-members .ensures)
+
 pub write-premises-spec : {M : Type 1} → statement M
 write-premises-spec =
     tie.close
@@ -43,7 +55,11 @@ write-premises-spec =
     write-lag-requires
     enum-known-cited-2
     write-events-requires
+    enum-known-cited-3
+    write-members-requires
     same-length
     returns
     same-length-2
-    returns-2)
+    returns-2
+    same-length-3
+    returns-3)
