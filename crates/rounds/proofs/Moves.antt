@@ -11,7 +11,7 @@ use Rattle.model.specs.Job.{windows, lag-word, Reservoir, Job as Call}
 use Rattle.model.specs.View.{View}
 use Rattle.model.proofs.Agree.{Agree}
 use Rattle.model.specs.Rules.{Family, level, time, height, reservoir, rule}
-use Rattle.model.specs.Agenda.{Attempt, try, each-of, lag-attempts, target-attempts, three-attempts, event-attempts, agenda}
+use Rattle.model.specs.Agenda.{Attempt, try, each-of, lag-attempts, target-attempts, three-attempts, event-attempts}
 use Rattle.model.specs.Rounds.{made}
 use Rattle.model.proofs.Sweeps.{made-append, made-more}
 use Rattle.tables.specs.Board.{board, table-of}
@@ -26,7 +26,7 @@ use Rattle.levels.proofs.Viewing.{subject-is}
 use Rattle.rules.specs.Values.{subjects-of, Tries}
 use Rattle.slips.proofs.Wording.{drop-later}
 use Rattle.rounds.specs.State.{state-of, Held, Grown, Made}
-use Rattle.rounds.specs.Sweeps.{Sees, Three, two-attempts, lags-attempts, events-attempts}
+use Rattle.rounds.specs.Sweeps.{Sees, Three, two-attempts}
 use Rattle.rounds.specs.declared.Progress.{Progress}
 
 -- The board and its window table hold the same windows.
@@ -132,10 +132,6 @@ module _ {k : Job} {ws : List ℤ} {b₀ buffer₀ : List ℤ} {p₀ : Progress}
       let three : ℕ → Call → List Attempt = λ r j. three-attempts j r e in
       made-both (three 3) (λ j. three 6 j ++ (three 9 j ++ three 12 j)) before
       (made-both (three 6) (λ j. three 9 j ++ three 12 j) mirrored (made-both (three 9) (three 12) by mirrored-by))
-
-  pub round-made : Made k ws lags-attempts b₀ buffer₀ p₀ b₁ buffer₁ p₁ → Made k ws events-attempts b₁ buffer₁ p₁ b₂ buffer₂ p₂ → Made k ws agenda b₀ buffer₀ p₀ b₂ buffer₂ p₂
-  unfolding agenda
-  round-made first second = made-both lags-attempts events-attempts first second
 
 -- What holds after either arm of a branch holds after the branch.
 pub joined : (P : List ℤ → List ℤ → Progress → Height → Type 0) {b b′ buffer buffer′ : List ℤ} {q q′ : Progress} {d d′ : Height} → b ≡ b′ → buffer ≡ buffer′ → q ≡ q′ → d ≡ d′ → P b′ buffer′ q′ d′ → P b buffer q d

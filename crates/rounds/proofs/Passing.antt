@@ -8,12 +8,12 @@ use native.Mathlib.Omega.{arith}
 use lib.IntN.{ℤ, _-ℤ_}
 use lib.ListN.{length}
 use Rattle.model.specs.Job.{h-min, windows, Windows, lags, events, Job as Call}
-use Rattle.model.specs.View.{side-end, side-limit, View, view, seen}
+use Rattle.model.specs.View.{side-end, side-limit, View, view, here, seen}
 use Rattle.model.specs.Levels.{most}
 use Rattle.model.specs.Rules.{Rule, rule, subjects, Family, level, time, height, reservoir, own-end}
 use Rattle.model.specs.Agenda.{Attempt, try, Each, lag-attempts, target-attempts, event-attempts}
 use Rattle.model.specs.Rounds.{State, attempt, made}
-use Rattle.model.proofs.Agree.{most-agree, seen-agree, outcome-agree}
+use Rattle.model.proofs.Agree.{most-agree, look-agree, outcome-agree}
 use Rattle.model.proofs.Silence.{Idle, Still, Quiet, made-still, targets-still, event-still, events-still, level-stays}
 use Rattle.tables.specs.Board.{board, table-of}
 use Rattle.tables.specs.Job.{reservoir-of, board-call, Serves, Fit}
@@ -116,9 +116,9 @@ pub leaves-on : {k : Job} {ws b buffer : List ℤ} {p : Progress} {b′ buffer�
 unfolding made
 leaves-on {k} {ws} {b} {buffer} {p} {b′} {r = r} {y} {v} sees leaves l m =
     let j = board-call k ws b in
-    let here = board-serves k ws b in
-    let next : Serves k ws (board b′) j = serves-alike here (m .kinds) in
-    let h = here .holds in
+    let served = board-serves k ws b in
+    let next : Serves k ws (board b′) j = serves-alike served (m .kinds) in
+    let h = served .holds in
     let n = k .events in
     let e = v .subject in
     let sent = j .window-table in
@@ -128,10 +128,10 @@ leaves-on {k} {ws} {b} {buffer} {p} {b′} {r = r} {y} {v} sees leaves l m =
     let own : own-end (rule r) ≡ side-end (v .mirror) h-min = rw (sees .rule-is) in
     let whole : length (table-of n sent b) ≡ 5 * events j = rw (h .events-are) (length-table n sent b) in
     let there : e < events j = rw (h .events-are) (sees .subject) in
-    let same : (c : List ℤ) → level (windows (table-of n sent c)) ≡ level (board c) = λ c. most-agree E (E .before) (λ y l. refl) (seen j (v .mirror) e (windows (table-of n sent c))) (seen j (v .mirror) e (board c)) (seen-agree j (v .mirror) e (events j) (windows (table-of n sent c)) (board c) (rw (h .events-are) (agree n sent c))) there in
+    let same : (c : List ℤ) → level (windows (table-of n sent c)) ≡ level (board c) = λ c. most-agree E (E .before) (λ y l. refl) (seen j (v .mirror) e (windows (table-of n sent c))) (seen j (v .mirror) e (board c)) (look-agree (here j e) (v .mirror) (events j) (windows (table-of n sent c)) (board c) (rw (h .events-are) (agree n sent c))) there in
     let stays = level-stays (length buffer) r j e y st (v .mirror) own whole (rw (h .events-are) l) (v .strict) there in
-    let table : windows (table-of n sent b′) ≡ windows (attempt (length buffer) r j e y st .table) = ap (λ (x : State). windows (x .table)) (m .is j here) in
+    let table : windows (table-of n sent b′) ≡ windows (attempt (length buffer) r j e y st .table) = ap (λ (x : State). windows (x .table)) (m .is j served) in
     let is : level (board b) ≡ level (board b′) = sym (same b) ∙ sym stays ∙ ap level (sym table) ∙ same b′ in
     let limit = side-limit (v .mirror) (reservoir-of (k .reservoir)) in
     let at : (c : List ℤ) → Serves k ws (board c) j → slack-of (as-view v (board c)) (seen-by v (board c)) ≡ level (board c) -ℤ limit = λ c s. ap (λ (E : View). slack-of E (seen-by v (board c))) (sees .views .is (board c)) ∙ ap (λ x. x -ℤ limit) (sym (most-here (v .mirror) (v .strict) e (board c) s there)) in
-    leaves ∙ at b here ∙ ap (λ x. x -ℤ limit) is ∙ sym (at b′ next)
+    leaves ∙ at b served ∙ ap (λ x. x -ℤ limit) is ∙ sym (at b′ next)

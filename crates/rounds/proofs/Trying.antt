@@ -1,7 +1,7 @@
 -- One attempt: its effect on the board is that on the window table, and a slip written with the new end stored is what the definitions record.
 -- Assumes nothing.
 use mathlib.Core.Path.{_≡_, refl, sym, ap, _∙_}
-use mathlib.Core.Bool.{Bool, true, false, not}
+use mathlib.Core.Bool.{Bool, true, false, not, cond}
 use mathlib.Core.List.{List, [], _∷_}
 use Prim.Native.Nat.{ℕ, zero, suc, _+_, _*_, _≤_, _<_}
 use native.Mathlib.Decide.{ℕ-discrete}
@@ -14,15 +14,15 @@ use Rattle.integers.specs.Range.{Within}
 use Rattle.integers.proofs.Linear.{ints}
 use Rattle.model.specs.Job.{End, t-min, t-max, h-min, h-max, word, windows, Windows, produces, events, Job as Call}
 use Rattle.model.specs.Standing.{span, Ranged}
-use Rattle.model.specs.Rules.{Rule, lag-upper, lag-lower, reservoir, rule, subjects, own-end, finding, Effect, idle, narrows, fails, effect}
-use Rattle.model.specs.Slips.{slip-words, explanation}
+use Rattle.model.specs.Rules.{Rule, lag-upper, lag-lower, reservoir, total, rule, subjects, own-end, finding, Effect, idle, narrows, fails, effect}
+use Rattle.model.specs.Slips.{Explanation, slip-words, explanation}
 use Rattle.model.specs.Agenda.{try}
 use Rattle.model.specs.Rounds as model
 use Rattle.model.specs.Rounds.{State, running, ended, recorded, fits, acted, attempt, made}
 use Rattle.model.proofs.Agree.{Agree, agree-sym, outcome-agree, explanation-agree}
 use Rattle.model.proofs.Words.{slip-words-length, premise-list-length}
 use Rattle.tables.specs.Board.{Whole, board, table-of}
-use Rattle.tables.specs.Job.{Holds, Serves, Fit}
+use Rattle.tables.specs.Job.{Holds, Kinds, Serves, Fit}
 use Rattle.tables.specs.declared.Job.{Job}
 use Rattle.tables.proofs.Board.{table-set, board-set-same, board-set-event, board-set-end}
 use Rattle.tables.proofs.Holding.{lags-of}
@@ -33,25 +33,26 @@ use Rattle.facts.specs.declared.Citing.{Citing}
 use Rattle.slips.specs.Words.{Appended}
 use Rattle.slips.specs.Slip.{slip-of, Writes}
 use Rattle.slips.proofs.Filling.{same-premises}
-use Rattle.rounds.specs.State.{status-of, still, state-of, Held, Grown, Leads, Made}
-use Rattle.rounds.specs.Attempts.{stored, table-after, status-after, stopped-at}
+use Rattle.rounds.specs.State.{status-of, still, state-at, state-of, Held, Grown, Leads, Made}
+use Rattle.rounds.specs.Attempts.{stored, table-after, status-after, stopped-at, written, Roomy, Entered}
 use Rattle.rounds.specs.declared.Progress.{Progress}
-use Rattle.rounds.specs.declared.Status.{Status}
 use Rattle.rounds.proofs.Moves.{agree, grown-none}
 
 -- ---- the subject of a rule
 
--- The subjects that a rule has in the job at hand are those in its calls.
-subjects-are : {k : Job} {ws : List ℤ} {j : Call} → Holds k ws j → (r : Rule) → subjects-of r k ws ≡ subjects r j
-subjects-are h lag-upper = rw (h .lags-are)
-subjects-are h lag-lower = rw (h .lags-are)
-subjects-are h (reservoir m b f) = sym (h .events-are)
+-- A subject that a rule has in the job at hand it has in its calls.
+subject-there : {k : Job} {ws : List ℤ} {j : Call} {e : ℕ} → Holds k ws j → (r : Rule) → e < subjects-of r k ws → e < subjects r j
+subject-there h lag-upper l = rw (h .lags-are) l
+subject-there h lag-lower l = rw (h .lags-are) l
+subject-there h (reservoir m b f) l = rw (h .events-are) l
+subject-there h (total m) l = absurd (omega arith)
 
 -- There are few.
 few-subjects : {k : Job} {ws : List ℤ} → Fit k ws → (r : Rule) → subjects-of r k ws ≤ 256
 few-subjects f lag-upper = f .few-lags
 few-subjects f lag-lower = f .few-lags
 few-subjects f (reservoir m b g) = omega (arith, f .few-events)
+few-subjects f (total m) = omega arith
 
 -- ---- the attempt by its parts
 
@@ -169,19 +170,116 @@ room-no room log slip used m p q h = lt-leb (length log + length slip + 3) room 
 room-yes : (room : ℕ) (log slip : List ℤ) (used m : ℕ) → length log ≡ used → length slip ≡ 7 + 3 * m → used + (10 + 3 * m) ≤ room → fits room log slip ≡ true
 room-yes room log slip used m p q h = le-leb (length log + length slip + 3) room (omega arith)
 
-grown-stop : {n : ℕ} {b buffer : List ℤ} {p : Progress} → Held n b buffer p → Grown n buffer p b buffer (stopped-at p)
-grown-stop h =
-    record {
-      held = record { whole = h .whole; ranged = h .ranged; signed = h .signed; small = h .small; trailer-fits = h .trailer-fits; counted = h .counted; placed = h .placed };
-      same = refl;
-      after = refl;
-      longer = omega arith;
-      more = omega arith;
-    }
+with-slip-is : {table table′ log log′ : List ℤ} {slips slips′ last last′ : ℕ} {s s′ : model.Status} → table ≡ table′ → log ≡ log′ → slips ≡ slips′ → last ≡ last′ → s ≡ s′
+    → _≡_ {A = State} (record { table = table; log = log; slips = slips; last = last; status = s }) (record { table = table′; log = log′; slips = slips′; last = last′; status = s′ })
+with-slip-is p q o l t = rw (p, q, o, l, t)
 
-with-slip-is : {table table′ log log′ : List ℤ} {slips last last′ : ℕ} {s s′ : model.Status} → table ≡ table′ → log ≡ log′ → last ≡ last′ → s ≡ s′
-    → _≡_ {A = State} (record { table = table; log = log; slips = slips; last = last; status = s }) (record { table = table′; log = log′; slips = slips; last = last′; status = s′ })
-with-slip-is p q l t = rw (p, q, l, t)
+-- A slip that is written does not stop the call.
+written-after : (x : Effect) → written (status-after x) ≡ true
+written-after idle = refl
+written-after (narrows v) = refl
+written-after fails = refl
+
+pub roomy-of : {n : ℕ} {b buffer : List ℤ} {p : Progress} → Held n b buffer p → Roomy buffer p
+roomy-of h = record { small = h .small; trailer-fits = h .trailer-fits; counted = h .counted; placed = h .placed }
+
+module _ {n : ℕ} {W : Windows} {c : Citing} {r e y : ℕ} (x : Done) {buffer : List ℤ} {p : Progress} (roomy : Roomy buffer p) (writes : Writes n W c r e y) where
+  abbrev slip : Explanation
+  slip = slip-of n W c r e y x
+
+  pub few-facts : length (slip .premises) ≤ 256
+  few-facts = omega (arith, premise-list-length n (cites-of c W) (says-of c W), writes .ranged .few)
+
+  log-size : length (take (p .used) buffer) ≡ p .used
+  log-size = length-take-le (p .used) buffer (omega (arith, roomy .trailer-fits))
+
+  module _ {m : ℕ} (count : m ≡ length (slip .premises)) where
+    long : length (slip-words slip) ≡ 7 + 3 * m
+    long = slip-words-length slip ∙ rw count
+
+    -- It does not fit.
+    pub stop-entered : {o : Progress} → length buffer < p .used + (10 + 3 * m) → o ≡ stopped-at p → Entered slip (status-after (effect-of x)) buffer p buffer o
+    stop-entered h f =
+        let no = room-no (length buffer) (take (p .used) buffer) (slip-words slip) (p .used) m log-size long h in
+        rw f
+        (record {
+          is = λ t u. rw no;
+          roomy = record { small = roomy .small; trailer-fits = roomy .trailer-fits; counted = roomy .counted; placed = roomy .placed };
+          same = refl;
+          after = refl;
+          longer = omega arith;
+          more = omega arith;
+        })
+
+    -- It fits and is written.
+    pub slip-entered : {buffer′ : List ℤ} {end : ℕ} {q : Progress} → p .used + (10 + 3 * m) ≤ length buffer → Appended (p .used) (slip-words slip) buffer buffer′ end
+        → (q .used ≡ end) × (q .slips ≡ p .slips + 1) × (q .last ≡ p .used) × (status-of (q .status) ≡ status-after (effect-of x)) → Entered slip (status-after (effect-of x)) buffer p buffer′ q
+    slip-entered {buffer′} {end} {q} h a g =
+        let yes = room-yes (length buffer) (take (p .used) buffer) (slip-words slip) (p .used) m log-size long h in
+        let went = ap written (g .3) ∙ written-after (effect-of x) in
+        record {
+          is = λ t u. with-slip-is (ap (λ b. cond b u t) went) (ap (λ i. take i buffer′) (g .0) ∙ a .is) (g .1) (g .2 ∙ sym log-size) (g .3) ∙ rw yes;
+          roomy = record {
+            small = omega (arith, a .same, roomy .small);
+            trailer-fits = omega (arith, long, a .place, a .same, g .0);
+            counted = omega (arith, long, a .place, roomy .counted, g .0, g .1);
+            placed = omega (arith, long, a .place, g .0, g .2);
+          };
+          same = a .same;
+          after = rw (g .0) (a .rest);
+          longer = omega (arith, long, a .place, g .0);
+          more = omega (arith, g .1);
+        }
+
+-- ---- the slip entered and the new end stored
+
+module _ {n : ℕ} {b buffer : List ℤ} {p : Progress} (i : Rule) {y : ℕ} {x : Effect} (held : Held n b buffer p) (there : y < n)
+    (narrower : (v : ℤ) → x ≡ narrows v → Narrower (board b) y (own-end i) v) (range : (v : ℤ) → x ≡ narrows v → Within v (span (own-end i)))
+    {slip : Explanation} {buffer′ b′ : List ℤ} {q : Progress} {t : Bool} (entered : Entered slip (status-after x) buffer p buffer′ q) (told : t ≡ written (status-of (q .status))) (put : b′ ≡ cond t (stored (own-end i) y x b) b) where
+  table-put : (sent : List ℤ) → table-of n sent b′ ≡ cond (written (status-of (q .status))) (table-after (own-end i) y x (table-of n sent b)) (table-of n sent b)
+  table-put sent = ap (table-of n sent) put ∙ go t ∙ ap (λ s. cond s (table-after (own-end i) y x (table-of n sent b)) (table-of n sent b)) told
+    where
+      go : (t : Bool) → table-of n sent (cond t (stored (own-end i) y x b) b) ≡ cond t (table-after (own-end i) y x (table-of n sent b)) (table-of n sent b)
+      go true = table-stored n sent b y (own-end i) x (held .whole) there (held .ranged .few)
+      go false = refl
+
+  pub entered-is : (sent : List ℤ) → state-of n sent b′ buffer′ q ≡ recorded (length buffer) (state-of n sent b buffer p) slip (table-after (own-end i) y x (table-of n sent b)) (status-after x)
+  entered-is sent =
+      ap (λ w. state-at w buffer′ q) (table-put sent) ∙ entered .is (table-of n sent b) (table-after (own-end i) y x (table-of n sent b))
+
+  put-sign : (z : ℕ) → z < n → (l : End) → 2 ≤ word l → produces (board b′ z l) ≡ produces (board b z h-max)
+  put-sign z h l w = ap (λ s. produces (board s z l)) put ∙ go t
+    where
+      go : (t : Bool) → produces (board (cond t (stored (own-end i) y x b) b) z l) ≡ produces (board b z h-max)
+      go true = stored-sign b (own-end i) y (held .whole) (held .ranged .few) there (held .signed) x narrower z h l w
+      go false = old-sign b (own-end i) y (held .whole) (held .ranged .few) there (held .signed) z h l w
+
+  pub entered-kinds : Kinds n (board b′) (board b)
+  entered-kinds z l = put-sign z l h-max (omega arith)
+
+  put-held : (t : Bool) → b′ ≡ cond t (stored (own-end i) y x b) b → Whole b′ × Ranged n (board b′)
+  put-held true e = (rw e (stored-whole (own-end i) y x b (held .whole)), rw e (stored-ranged b (own-end i) y x (held .whole) (held .ranged) there range))
+  put-held false e = (rw e (held .whole), rw e (held .ranged))
+
+  pub entered-grown : Grown n buffer p b′ buffer′ q
+  entered-grown =
+      let w = put-held t put in
+      let r = entered .roomy in
+      record {
+        held = record {
+          whole = w .0;
+          ranged = w .1;
+          signed = λ z l. put-sign z l h-min (omega arith) ∙ sym (put-sign z l h-max (omega arith));
+          small = r .small;
+          trailer-fits = r .trailer-fits;
+          counted = r .counted;
+          placed = r .placed;
+        };
+        same = entered .same;
+        after = entered .after;
+        longer = entered .longer;
+        more = entered .more;
+      }
 
 module _ {k : Job} {ws b buffer : List ℤ} {p : Progress} {r e y : ℕ} {x : Done} {c : Citing} (held : Held (k .events) b buffer p) (tries : Tries k ws (board b) r e y)
     (does : Does k ws (board b) r e y x) (busy : is-idle (effect-of x) ≡ false) (cites : Cites k ws (board b) r e y x c) where
@@ -192,27 +290,18 @@ module _ {k : Job} {ws b buffer : List ℤ} {p : Progress} {r e y : ℕ} {x : Do
         ranged = held .ranged;
         known = cites .known;
         first = tries .first;
-        last = tries .last;
+        last = omega (arith, tries .last);
         subject = omega (arith, tries .subject, few-subjects (tries .fit) (rule r));
         target = omega (arith, tries .target, held .ranged .few);
       }
 
-  pub few-facts : length (slip-of (k .events) (board b) c r e y x .premises) ≤ 256
-  few-facts = omega (arith, premise-list-length (k .events) (cites-of c (board b)) (says-of c (board b)), held .ranged .few)
-
-  log-size : length (take (p .used) buffer) ≡ p .used
-  log-size = length-take-le (p .used) buffer (omega (arith, held .trailer-fits))
-
-  slip-size : length (slip-words (slip-of (k .events) (board b) c r e y x)) ≡ 7 + 3 * length (slip-of (k .events) (board b) c r e y x .premises)
-  slip-size = slip-words-length (slip-of (k .events) (board b) c r e y x)
-
-  -- It is the definitions' slip, and what they make of it is known by whether it fits.
+  -- It is the definitions' slip.
   module _ (j : Call) (s : Serves k ws (board b) j) where
     slip-is : slip-of (k .events) (board b) c r e y x ≡ explanation r j (windows (table-of (k .events) (j .window-table) b)) e y (effect-of x)
     slip-is =
         let n = k .events in
         let h = s .holds in
-        let there : e < subjects (rule r) j = rw (← subjects-are h (rule r)) (tries .subject) in
+        let there : e < subjects (rule r) j = subject-there h (rule r) (tries .subject) in
         let same : Agree (events j) (board b) (windows (table-of n (j .window-table) b)) = rw (h .events-are) (agree-sym n (windows (table-of n (j .window-table) b)) (board b) (agree n (j .window-table) b)) in
         rw (same-premises j s cites) (explanation-agree j (board b) (windows (table-of n (j .window-table) b)) same r e y (effect-of x) there)
 
@@ -220,42 +309,14 @@ module _ {k : Job} {ws b buffer : List ℤ} {p : Progress} {r e y : ℕ} {x : Do
         ≡ recorded (length buffer) (state-of (k .events) (j .window-table) b buffer p) (slip-of (k .events) (board b) c r e y x) (table-after (own-end (rule r)) y (effect-of x) (table-of (k .events) (j .window-table) b)) (status-after (effect-of x))
     act-is = acted-slip (length buffer) r j e y (effect-of x) (state-of (k .events) (j .window-table) b buffer p) busy ∙ rw (← slip-is)
 
-  module _ {m : ℕ} (count : m ≡ length (slip-of (k .events) (board b) c r e y x .premises)) where
-    long : length (slip-words (slip-of (k .events) (board b) c r e y x)) ≡ 7 + 3 * m
-    long = slip-size ∙ rw count
-
-    -- It does not fit.
-    pub stop-made : {o : Progress} → length buffer < p .used + (10 + 3 * m) → o ≡ stopped-at p → Leads k ws (λ j. acted (length buffer) r j e y (effect-of x)) b buffer p b buffer o
-    stop-made h f =
-        let no = room-no (length buffer) (take (p .used) buffer) (slip-words (slip-of (k .events) (board b) c r e y x)) (p .used) m log-size long h in
-        rw f (record { is = λ j q. sym (act-is j q ∙ rw no); kinds = λ y l. refl; grown = grown-stop held })
-
-    -- It fits: the slip is written and the new end stored.
-    pub slip-made : {b′ buffer′ : List ℤ} {end : ℕ} {s : Status} → p .used + (10 + 3 * m) ≤ length buffer → Appended (p .used) (slip-words (slip-of (k .events) (board b) c r e y x)) buffer buffer′ end
-        → b′ ≡ stored (own-end (rule r)) y (effect-of x) b → status-of s ≡ status-after (effect-of x)
-        → Leads k ws (λ j. acted (length buffer) r j e y (effect-of x)) b buffer p b′ buffer′ (record { used = end; slips = p .slips + 1; last = p .used; status = s })
-    slip-made h a g t =
-        let yes = room-yes (length buffer) (take (p .used) buffer) (slip-words (slip-of (k .events) (board b) c r e y x)) (p .used) m log-size long h in
-        let signs = stored-sign b (own-end (rule r)) y (held .whole) (held .ranged .few) (tries .target) (held .signed) (effect-of x) (does .narrower) in
-        record {
-          is = λ j q. with-slip-is (ap (table-of (k .events) (j .window-table)) g ∙ table-stored (k .events) (j .window-table) b y (own-end (rule r)) (effect-of x) (held .whole) (tries .target) (held .ranged .few)) (a .is) (sym log-size) t ∙ sym (act-is j q ∙ rw yes);
-          kinds = rw g (λ z l. signs z l h-max (omega arith));
-          grown = record {
-            held = record {
-              whole = rw g (stored-whole (own-end (rule r)) y (effect-of x) b (held .whole));
-              ranged = rw g (stored-ranged b (own-end (rule r)) y (effect-of x) (held .whole) (held .ranged) (tries .target) (does .range));
-              signed = rw g (λ z l. signs z l h-min (omega arith) ∙ sym (signs z l h-max (omega arith)));
-              small = omega (arith, a .same, held .small);
-              trailer-fits = omega (arith, long, a .place, a .same);
-              counted = omega (arith, long, a .place, held .counted);
-              placed = omega (arith, long, a .place);
-            };
-            same = a .same;
-            after = a .rest;
-            longer = omega (arith, long, a .place);
-            more = omega arith;
-          };
-        }
+  pub act-made : {buffer′ b′ : List ℤ} {q : Progress} {t : Bool} → Entered (slip-of (k .events) (board b) c r e y x) (status-after (effect-of x)) buffer p buffer′ q → t ≡ written (status-of (q .status)) → b′ ≡ cond t (stored (own-end (rule r)) y (effect-of x) b) b
+      → Leads k ws (λ j. acted (length buffer) r j e y (effect-of x)) b buffer p b′ buffer′ q
+  act-made entered told put =
+      record {
+        is = λ j s. entered-is (rule r) held (tries .target) (does .narrower) (does .range) entered told put (j .window-table) ∙ sym (act-is j s);
+        kinds = entered-kinds (rule r) held (tries .target) (does .narrower) (does .range) entered told put;
+        grown = entered-grown (rule r) held (tries .target) (does .narrower) (does .range) entered told put;
+      }
 
 -- ---- the attempt
 
@@ -271,7 +332,7 @@ module _ {k : Job} {ws b buffer : List ℤ} {p : Progress} {r e y : ℕ} (held :
         let n = k .events in
         let on = still-running (status-of (p .status)) (sym h ∙ not-false t f) in
         let h = q .holds in
-        let there : e < subjects (rule r) j = rw (← subjects-are h (rule r)) (tries .subject) in
+        let there : e < subjects (rule r) j = subject-there h (rule r) (tries .subject) in
         let same = outcome-agree j (windows (table-of n (j .window-table) b)) (board b) (rw (h .events-are) (agree n (j .window-table) b)) (lags-of h (tries .fit)) (rule r) e y there (rw (h .events-are) (tries .target)) ∙ sym (does .is j q) in
         attempt-tried (length buffer) r j e y (state-of n (j .window-table) b buffer p) ∙ rw (on, same)
 

@@ -27,16 +27,20 @@ abbrev pub still : model.Status → Bool
 still running = true
 still (ended v) = false
 
--- The state of n events: the board's window table, with the cages of the table that was sent in, and the list so far at the buffer's start.
-abbrev pub state-of : ℕ → List ℤ → List ℤ → List ℤ → Progress → State
-state-of n sent b buffer p =
+-- The state of a window table, and the list so far at the buffer's start.
+abbrev pub state-at : List ℤ → List ℤ → Progress → State
+state-at table buffer p =
     record {
-      table = table-of n sent b;
+      table = table;
       log = take (p .used) buffer;
       slips = p .slips;
       last = p .last;
       status = status-of (p .status);
     }
+
+-- That of n events: the board's window table, with the cages of the table that was sent in.
+abbrev pub state-of : ℕ → List ℤ → List ℤ → List ℤ → Progress → State
+state-of n sent b buffer p = state-at (table-of n sent b) buffer p
 
 -- What holds of a call's board, buffer and counts between any two attempts: the ends are in range, an event's amounts are a delivery's at both ends or at none, and a trailer fits after the list.
 pub record Held (n : ℕ) (b buffer : List ℤ) (p : Progress) : Type 0 where

@@ -1,4 +1,4 @@
-// The attempts of a round in order: lags, then events with rules 3 to 14, targets in event order.
+// The attempts of a round in order: of lags, and of events with rules 3 to 14, targets in event order. Those of sets come between: they read no cage.
 use crate::Progress;
 use crate::attempts::attempt;
 use levels::View;
@@ -19,7 +19,7 @@ ghost use mathlib.Core.List.{[], _∷_};
 ghost use Prim.Native.Nat.{_/_, _+_, _<_};
 ghost use lib.ListN.{length};
 ghost use Rattle.model.specs.Rules.{level, time, height};
-ghost use Rattle.model.specs.Agenda.{try, lag-attempts, target-attempts, three-attempts, event-attempts, agenda};
+ghost use Rattle.model.specs.Agenda.{try, lag-attempts, target-attempts, three-attempts, event-attempts};
 ghost use Rattle.tables.specs.Job.{Fit};
 ghost use Rattle.rounds.specs.State.{Held, Made};
 ghost use Rattle.rounds.specs.Sweeps.{Sees, Three, Leaves, two-attempts, lags-attempts, events-attempts};
@@ -211,7 +211,7 @@ pub fn event_rules(
     three_rules(b, lags, k, 12, true, false, e, buffer, by)
 }
 
-// ---- a round
+// ---- all events
 
 // All events in order. All are passed over where the limits are far off, and an event where a floor under its levels shows that no rule does anything at it; d is the largest width of an amount window as it then stands.
 pub fn all_events(
@@ -242,16 +242,4 @@ pub fn all_events(
         e += 1;
     }
     q
-}
-
-// A round: lags in table order, then events in order.
-pub fn round(b: &mut [i32; 256], lags: &[i32], k: Job, buffer: &mut [i32], p: Progress) -> Progress
-    requires { ⌜ Fit k (now lags) × Held (k .events) (now b) (now buffer) p ⌝ }
-    ensures { λ q. ⌜
-        Made k (now (lags .entry)) agenda
-        (now (b .entry)) (now (buffer .entry)) p (now (b .exit)) (now (buffer .exit)) q
-        ⌝ }
-{
-    let q = all_lags(b, lags, k, buffer, p);
-    all_events(b, lags, k, buffer, q)
 }
