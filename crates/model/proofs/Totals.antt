@@ -2,17 +2,18 @@
 -- Assumes nothing.
 use mathlib.Core.Path.{_≡_, refl, sym, ap, ap₂, subst, _∙_}
 use mathlib.Core.Bool.{Bool, true, false, not, cond, _||_, or-true, or-false}
+use mathlib.Core.List.{List}
 use Prim.Native.Nat.{ℕ, zero, suc, _≤_, _<_}
 use native.Mathlib.Omega.{arith}
 use lib.Dec.{T, eqb, eqb→eq, eqb-refl}
-use lib.IntN.{ℤ, pos, negℤ, _+ℤ_}
+use lib.IntN.{ℤ, pos, natAbs, negℤ, _+ℤ_}
 use lib.Signed.{_≤ℤ_}
 use Rattle.integers.specs.Sum.{sum}
 use Rattle.integers.proofs.Linear.{ints, add-law, neg-law}
 use Rattle.integers.proofs.Sums.{sum-le, sum-le-but, sum-ext, sum-neg}
 use Rattle.integers.proofs.Tests.{is-true, is-false, or-left, or-right}
-use Rattle.model.specs.Job.{h-min, Windows, Inside, h-max, consumes, produces, Job, Schedule, Legal, sets, events, in-set, value, set-sum, set-most, any, set-size, member}
-use Rattle.model.specs.Standing.{Sane}
+use Rattle.model.specs.Job.{h-min, Windows, Inside, h-max, consumes, produces, Job, Schedule, Legal, sets, events, in-set, value, set-sum, set-most, any, member-count, member-word}
+use Rattle.model.specs.Standing.{SaneSet}
 use Rattle.model.specs.View.{look, side-end}
 use Rattle.model.specs.Rules.{others, total-limit}
 use Rattle.model.specs.Facts.{total-cites}
@@ -145,10 +146,11 @@ module _ (n : ℕ) (m : ℕ → ℕ) (f : ℕ → ℤ) where
       ap (λ x. x +ℤ f (m k)) (listed-sum k (λ i l. real i (omega arith)) (λ i l o p. once i l o (omega arith)))
       ∙ sym (one-more k (real k (omega arith)) (λ i l. once k i l (omega arith)))
 
--- A set's members added as listed come to its sum over all events.
-pub members-sum : (j : Job) → Sane j → (g : ℕ) → g < sets j → (f : ℕ → ℤ) → sum (set-size j g) (λ i. f (member j g i)) ≡ sum (events j) (λ y. cond (in-set j g y) (f y) (pos 0))
-members-sum j sane g l f =
-    listed-sum (events j) (member j g) f (set-size j g) (λ i n. sane .set-sane g l .member-real i n) (λ i k o n. sane .set-sane g l .member-distinct i k n o)
+-- The members of a sane set added as listed come to its sum over all events.
+pub members-sum : {n : ℕ} {ws : List ℤ} {g : ℕ} → SaneSet n ws g → (f : ℕ → ℤ) →
+    sum (member-count ws g) (λ i. f (natAbs (member-word ws g i))) ≡ sum n (λ y. cond (any (member-count ws g) (λ i. eqb (natAbs (member-word ws g i)) y)) (f y) (pos 0))
+members-sum {n} {ws} {g} sane f =
+    listed-sum n (λ i. natAbs (member-word ws g i)) f (member-count ws g) (sane .member-real) (λ i k o l. sane .member-distinct i k l o)
 
 ones : (n : ℕ) → sum n (λ y. pos 1) ≡ pos n
 unfolding sum
@@ -156,13 +158,14 @@ ones zero = refl
 ones (suc n) = let a = ones n in omega (ints, add-law (sum n (λ y. pos 1)) (pos 1))
 
 -- So it has no more members than there are events.
-pub few-members : (j : Job) → Sane j → (g : ℕ) → g < sets j → set-size j g ≤ events j
-few-members j sane g l =
-    let a = members-sum j sane g l (λ y. pos 1) in
-    let b = sum-le (events j) (λ y. cond (in-set j g y) (pos 1) (pos 0)) (λ y. pos 1) (λ y n. at-most (in-set j g y)) in
-    let c = ones (events j) in
-    let d = ones (set-size j g) in
-    let e : pos (set-size j g) ≤ℤ pos (events j) = omega ints in
+pub few-members : {n : ℕ} {ws : List ℤ} {g : ℕ} → SaneSet n ws g → member-count ws g ≤ n
+few-members {n} {ws} {g} sane =
+    let own : ℕ → Bool = λ y. any (member-count ws g) (λ i. eqb (natAbs (member-word ws g i)) y) in
+    let a = members-sum sane (λ y. pos 1) in
+    let b = sum-le n (λ y. cond (own y) (pos 1) (pos 0)) (λ y. pos 1) (λ y l. at-most (own y)) in
+    let c = ones n in
+    let d = ones (member-count ws g) in
+    let e : pos (member-count ws g) ≤ℤ pos n = omega ints in
     omega (arith, ints)
   where
     at-most : (b : Bool) → cond b (pos 1) (pos 0) ≤ℤ pos 1
