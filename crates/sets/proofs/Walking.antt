@@ -1,10 +1,11 @@
 -- Counts of a set table, and its sets one after another.
 -- Assumes nothing.
 use mathlib.Core.Path.{_≡_, refl, ap, _∙_}
-use mathlib.Core.Bool.{cond}
+use mathlib.Core.Bool.{Bool, true, false, cond}
 use mathlib.Core.List.{List}
-use Prim.Native.Nat.{ℕ, _+_, _<_, _^_}
+use Prim.Native.Nat.{ℕ, _+_, _<_, _≤_, _^_}
 use native.Mathlib.Numerals.{add-one}
+use native.Mathlib.Omega.{arith}
 use lib.Dec.{T, ltb}
 use lib.IntN.{ℤ, pos, negsuc, natAbs}
 use lib.ListN.{length}
@@ -42,3 +43,7 @@ begin-first ws = refl
 pub begun-first : (ws : List ℤ) → 0 ≡ begun ws 0
 unfolding begun
 begun-first ws = refl
+
+pub raised-most : (b : Bool) {k r z : ℕ} → z ≡ cond b (k + 1) r → r ≤ k → z ≤ k + 1
+raised-most true e l = omega arith
+raised-most false e l = omega arith

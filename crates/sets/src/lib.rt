@@ -72,7 +72,7 @@ fn raised(b: bool, k: usize, r: usize) -> usize
 
 // How many sets begin, of the first 17.
 pub fn sets(ws: &[i32]) -> usize
-    ensures { λ r. ⌜ r ≡ begun (now (ws .entry)) 17 ⌝ }
+    ensures { λ r. ⌜ (r ≡ begun (now (ws .entry)) 17) × (r ≤ 17) ⌝ }
 {
     let mut begun: usize = 0;
     let mut at: usize = 0;
