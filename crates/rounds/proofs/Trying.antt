@@ -71,13 +71,21 @@ tried-off : (x : model.Status) (next s : State) → still x ≡ false → tried 
 tried-off running next s e = cc
 tried-off (ended v) next s e = refl
 
-acted-idle : (room r : ℕ) (j : Call) (e y : ℕ) (x : Effect) (s : State) → is-idle x ≡ true → acted room r j e y x s ≡ s
+-- None once the call has ended.
+pub attempt-ends : (room r : ℕ) (j : Call) (e y : ℕ) (s : State) → still (s .status) ≡ false → made room j (try r e y ∷ []) s ≡ s
+attempt-ends room r j e y s h = attempt-tried room r j e y s ∙ tried-off (s .status) _ s h
+
+-- While it goes on, what its effect asks.
+pub attempt-does : (room r : ℕ) (j : Call) (e y : ℕ) (s : State) {x : Effect} → still (s .status) ≡ true → effect (own-end (rule r)) (windows (s .table)) y (finding (rule r) j (windows (s .table)) e y) ≡ x → made room j (try r e y ∷ []) s ≡ acted room r j e y x s
+attempt-does room r j e y s h q = attempt-tried room r j e y s ∙ rw (still-running (s .status) h, q)
+
+pub acted-idle : (room r : ℕ) (j : Call) (e y : ℕ) (x : Effect) (s : State) → is-idle x ≡ true → acted room r j e y x s ≡ s
 unfolding acted
 acted-idle room r j e y idle s h = refl
 acted-idle room r j e y (narrows v) s h = cc
 acted-idle room r j e y fails s h = cc
 
-acted-slip : (room r : ℕ) (j : Call) (e y : ℕ) (x : Effect) (s : State) → is-idle x ≡ false
+pub acted-slip : (room r : ℕ) (j : Call) (e y : ℕ) (x : Effect) (s : State) → is-idle x ≡ false
     → acted room r j e y x s ≡ recorded room s (explanation r j (windows (s .table)) e y x) (table-after (own-end (rule r)) y x (s .table)) (status-after x)
 unfolding acted
 acted-slip room r j e y idle s h = cc
@@ -324,17 +332,17 @@ module _ {k : Job} {ws b buffer : List ℤ} {p : Progress} {r e y : ℕ} (held :
   -- The call has ended.
   pub attempt-off : {t : Bool} → t ≡ still (status-of (p .status)) → not t ≡ true → Made k ws (λ j. try r e y ∷ []) b buffer p b buffer p
   attempt-off {t} h f =
-      record { is = λ j q. let st = state-of (k .events) (j .window-table) b buffer p in sym (attempt-tried (length buffer) r j e y st ∙ tried-off (status-of (p .status)) _ st (sym h ∙ not-true t f)); kinds = λ y l. refl; grown = grown-none held }
+      record { is = λ j q. sym (attempt-ends (length buffer) r j e y (state-of (k .events) (j .window-table) b buffer p) (sym h ∙ not-true t f)); kinds = λ y l. refl; grown = grown-none held }
 
   module _ {t : Bool} {x : Done} (h : t ≡ still (status-of (p .status))) (f : not t ≡ false) (does : Does k ws (board b) r e y x) where
     attempt-on : (j : Call) → Serves k ws (board b) j → made (length buffer) j (try r e y ∷ []) (state-of (k .events) (j .window-table) b buffer p) ≡ acted (length buffer) r j e y (effect-of x) (state-of (k .events) (j .window-table) b buffer p)
     attempt-on j q =
         let n = k .events in
-        let on = still-running (status-of (p .status)) (sym h ∙ not-false t f) in
+        let on = sym h ∙ not-false t f in
         let h = q .holds in
         let there : e < subjects (rule r) j = subject-there h (rule r) (tries .subject) in
         let same = outcome-agree j (windows (table-of n (j .window-table) b)) (board b) (rw (h .events-are) (agree n (j .window-table) b)) (lags-of h (tries .fit)) (rule r) e y there (rw (h .events-are) (tries .target)) ∙ sym (does .is j q) in
-        attempt-tried (length buffer) r j e y (state-of n (j .window-table) b buffer p) ∙ rw (on, same)
+        attempt-does (length buffer) r j e y (state-of n (j .window-table) b buffer p) on same
 
     -- It does nothing.
     pub attempt-idle : {i : Bool} → i ≡ is-idle (effect-of x) → i ≡ true → Made k ws (λ j. try r e y ∷ []) b buffer p b buffer p
