@@ -13,11 +13,11 @@ use lib.ListN.{length}
 use Rattle.integers.specs.Range.{Within}
 use Rattle.integers.proofs.Linear.{ints, sub-law, neg-law}
 use Rattle.integers.proofs.Tests.{is-true}
-use Rattle.model.specs.Job.{End, t-min, t-max, h-min, h-max, Windows, Job as Call, events, produces, consumes, any, in-set}
+use Rattle.model.specs.Job.{End, t-min, t-max, h-min, h-max, Windows, Job as Call, events, produces, consumes, any}
 use Rattle.model.specs.Standing.{span}
 use Rattle.model.specs.View.{side, side-value, side-end, View, view, seen, look}
 use Rattle.model.specs.Levels.{Place, sure, possible, never, place, e-min, e-max}
-use Rattle.model.specs.Rules.{Family, level, time, height, reservoir, total, rule, targeted, Effect, idle, narrows, fails, failed, is-narrowing}
+use Rattle.model.specs.Rules.{Family, level, time, height, reservoir, rule, targeted, Effect, idle, narrows, fails, failed, is-narrowing}
 use Rattle.model.specs.Facts.{lag-cites, first-late, last-early, left-out, surely-consumed, late, early, latest, quotes-top, spares, drops, family-cites, family-says, total-cites, quotes, quoted}
 use Rattle.model.proofs.Agree.{at-hand, cites-agree, says-agree}
 use Rattle.tables.specs.Job.{reservoir-of, Serves, Fit}

@@ -1,6 +1,6 @@
 -- Attempts one after the other: what was made of the state, and that the list only grows.
 -- Assumes nothing.
-use mathlib.Core.Path.{_≡_, refl, sym, ap, _∙_}
+use mathlib.Core.Path.{_≡_, refl, sym, _∙_}
 use mathlib.Core.Bool.{Bool}
 use mathlib.Core.List.{List, [], _∷_, _++_}
 use Prim.Native.Nat.{ℕ, _+_, _≤_, _<_}
@@ -8,7 +8,6 @@ use native.Mathlib.Omega.{arith}
 use lib.IntN.{ℤ, natAbs}
 use lib.ListN.{length}
 use Rattle.model.specs.Job.{windows, lag-word, Reservoir, Job as Call}
-use Rattle.model.specs.View.{View}
 use Rattle.model.proofs.Agree.{Agree}
 use Rattle.model.specs.Rules.{Family, level, time, height, reservoir, rule}
 use Rattle.model.specs.Agenda.{Attempt, try, each-of, lag-attempts, target-attempts, three-attempts, event-attempts}

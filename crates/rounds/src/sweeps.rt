@@ -14,7 +14,6 @@ use silence::slack::is_moved;
 use silence::slack::slack;
 use tables::Height;
 use tables::Job;
-ghost use mathlib.Core.Path.{_≡_};
 ghost use mathlib.Core.List.{[], _∷_};
 ghost use Prim.Native.Nat.{_/_, _+_, _<_};
 ghost use lib.ListN.{length};

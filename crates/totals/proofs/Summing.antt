@@ -54,7 +54,7 @@ module _ {ws : List ℤ} {at : ℕ} {W : Windows} (a : Adds ws at W) where
 
 -- ---- a set that the questions let pass
 
-adds-at : {n : ℕ} {ws : List ℤ} {g : ℕ} {W : Windows} → SaneSet n ws g → Ranged n W → Adds ws (set-begin ws g) W
+pub adds-at : {n : ℕ} {ws : List ℤ} {g : ℕ} {W : Windows} → SaneSet n ws g → Ranged n W → Adds ws (set-begin ws g) W
 unfolding set-begin
 adds-at {n} {ws} {g} {W} s r =
     let few = few-members s in
