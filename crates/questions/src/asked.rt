@@ -1,8 +1,9 @@
-// Questions 1 to 11, 22, 29 and 30, which planner and reader both put to a call, in order; words are only compared, so that any word is harmless.
+// Questions 1 to 11, 22, 29, 30 and 31 to 33, which planner and reader both put to a call, in order; words are only compared, so that any word is harmless.
 use crate::Check;
 use crate::LEAST_ROOM;
 use crate::MOST_ROOM;
 use crate::Refusal;
+use crate::asked_sets::set_questions;
 use tables::Height;
 use tables::LEAST_AMOUNT;
 use tables::LEAST_LEVEL;
@@ -29,7 +30,7 @@ ghost use Rattle.tables.specs.Job.{reservoir-of, call};
 ghost use Rattle.questions.specs.Asked.{check-of, cage-asked, event-right, lag-right};
 
 // Refused with a question's number and place.
-fn refuse(number: usize, place: usize) -> Check
+pub fn refuse(number: usize, place: usize) -> Check
     ensures { λ r. ⌜ check-of r ≡ refuse number place ⌝ }
 {
     Check::Refuse(Refusal {
@@ -60,7 +61,7 @@ fn rising(a: i32, b: i32, h: i32) -> bool
     between(a, 0, b) && b <= h
 }
 
-fn differ(a: i32, b: i32) -> bool
+pub fn differ(a: i32, b: i32) -> bool
     ensures { λ r. ⌜ r ≡ not (eqZ a b) ⌝ }
 {
     a != b
@@ -373,9 +374,9 @@ pub fn room_question(room: usize) -> Check
     Check::Pass
 }
 
-// The job's own questions, 1 to 10, 22, 29 and 30.
-pub fn own_questions(h: Time, cages: &[i32], table: &[i32], lags: &[i32]) -> Check
-    ensures { λ r. ⌜ check-of r ≡ own-questions (call (h .0) (now (cages .entry)) (now (table .entry)) (now (lags .entry))) ⌝ }
+// The job's own questions, 1 to 10, 22, 29, 30 and 31 to 33.
+pub fn own_questions(h: Time, cages: &[i32], table: &[i32], lags: &[i32], sets: &[i32]) -> Check
+    ensures { λ r. ⌜ check-of r ≡ own-questions (call (h .0) (now (cages .entry)) (now (table .entry)) (now (lags .entry)) (now (sets .entry))) ⌝ }
 {
     let cage = cage_questions(h, cages);
     let Check::Pass = cage else {
@@ -385,14 +386,26 @@ pub fn own_questions(h: Time, cages: &[i32], table: &[i32], lags: &[i32]) -> Che
     let Check::Pass = windows else {
         return windows;
     };
-    lag_questions(table.len() / 5, lags)
+    let n = table.len() / 5;
+    let lagged = lag_questions(n, lags);
+    let Check::Pass = lagged else {
+        return lagged;
+    };
+    set_questions(n, sets)
 }
 
 // The job's own questions, then of the slip buffer's length, 11.
-pub fn questions(h: Time, cages: &[i32], table: &[i32], lags: &[i32], room: usize) -> Check
-    ensures { λ r. ⌜ check-of r ≡ questions (call (h .0) (now (cages .entry)) (now (table .entry)) (now (lags .entry))) room ⌝ }
+pub fn questions(
+    h: Time,
+    cages: &[i32],
+    table: &[i32],
+    lags: &[i32],
+    sets: &[i32],
+    room: usize,
+) -> Check
+    ensures { λ r. ⌜ check-of r ≡ questions (call (h .0) (now (cages .entry)) (now (table .entry)) (now (lags .entry)) (now (sets .entry))) room ⌝ }
 {
-    let own = own_questions(h, cages, table, lags);
+    let own = own_questions(h, cages, table, lags, sets);
     let Check::Pass = own else {
         return own;
     };

@@ -1,4 +1,4 @@
--- `questions::asked::own_questions` puts the job's own questions in three groups, each where those before it passed. Assumes nothing.
+-- `questions::asked::own_questions` puts the job's own questions in four groups, each where those before it passed. Assumes nothing.
 use borrow.Author.Needs.{needs}
 use Rattle.model.specs.Questions.{own-questions}
 use Rattle.questions.proofs.Questions.{then-pass, then-refuse, few-cages, few-events}
@@ -40,11 +40,30 @@ lag-questions-requires c κs =
     let a = c .before .before .before .before .before .before .args in
     few-events (a .h .0) _ (a .table .now) (c .before .before .window-questions .ensures) (c .enum-told3 .given .1)
 
+enum-told-5 : tie.Need-enum-told-5
+enum-told-5 c = search needs
+
+enum-told-6 : tie.Need-enum-told-6
+enum-told-6 c = search needs
+
 returns-3 : tie.Need-returns-3
 unfolding own-questions
 returns-3 c =
-    then-pass (c .before .before .before .before .before .before .cage-questions .ensures) (c .before .before .before .before .enum-told .given .1)
-    (then-pass (c .before .before .before .window-questions .ensures) (c .before .enum-told3 .given .1) (c .lag-questions .ensures))
+    then-pass (c .before .before .before .before .before .before .before .before .cage-questions .ensures) (c .before .before .before .before .before .before .enum-told .given .1)
+    (then-pass (c .before .before .before .before .before .window-questions .ensures) (c .before .before .before .enum-told3 .given .1)
+    (then-refuse _ (c .before .before .lag-questions .ensures) (c .enum-told6 .given .1)))
+
+set-questions-requires : tie.Need-set-questions-requires
+set-questions-requires c κs =
+    let a = c .before .before .before .before .before .before .before .before .before .args in
+    few-events (a .h .0) _ (a .table .now) (c .before .before .before .before .before .window-questions .ensures) (c .before .before .before .enum-told3 .given .1)
+
+returns-4 : tie.Need-returns-4
+unfolding own-questions
+returns-4 c =
+    then-pass (c .before .before .before .before .before .before .before .before .before .cage-questions .ensures) (c .before .before .before .before .before .before .before .enum-told .given .1)
+    (then-pass (c .before .before .before .before .before .before .window-questions .ensures) (c .before .before .before .before .enum-told3 .given .1)
+    (then-pass (c .before .before .before .lag-questions .ensures) (c .before .enum-told5 .given .1) (c .set-questions .ensures)))
 
 pub own-questions-spec : {M : Type 1} → statement M
 own-questions-spec =
@@ -59,4 +78,8 @@ own-questions-spec =
     enum-told-4
     returns-2
     lag-questions-requires
-    returns-3)
+    enum-told-5
+    enum-told-6
+    returns-3
+    set-questions-requires
+    returns-4)
