@@ -1,8 +1,8 @@
 -- All rules at an event on the board of its cage: what they do there, put back, is what they do in the job; the same of the lags.
 -- Assumes nothing.
-use mathlib.Core.Path.{_≡_, refl, sym, ap, ap₂, subst, _∙_}
+use mathlib.Core.Path.{_≡_, refl, sym, ap, subst, _∙_}
 use mathlib.Core.Bool.{Bool, true, false, cond}
-use mathlib.Core.List.{List}
+use mathlib.Core.List.{List, _++_}
 use Prim.Native.Nat.{ℕ, _+_, _*_, _≤_, _<_}
 use native.Mathlib.Omega.{arith}
 use lib.IntN.{ℤ, pos, negsuc, natAbs}
@@ -12,19 +12,20 @@ use Rattle.integers.specs.Range.{Within}
 use Rattle.integers.proofs.Linear.{ints}
 use Rattle.model.specs.Job.{End, t-min, t-max, h-min, h-max, Windows, windows, produces, events, sent, cage-at, cage-word, home, cage, cages, Job as Call}
 use Rattle.model.specs.View.{shown, here}
-use Rattle.model.specs.Standing.{Sane, Ranged, span}
-use Rattle.model.specs.Agenda.{Attempt, each-of, lag-attempts, event-attempts, agenda}
+use Rattle.model.specs.Standing.{span}
+use Rattle.model.specs.Agenda.{Attempt, each-of, event-attempts, agenda}
 use Rattle.model.specs.Rounds.{State, made}
-use Rattle.model.proofs.Alone.{masked, apart, alone, bare, events-apart, home-word, sent-apart, Masks, Twin, with-table, event-twin, lags-twin, same-table}
+use Rattle.model.proofs.Alone.{masked, apart, events-apart, home-word, sent-apart, Masks, Twin, with-table, event-twin, lags-twin, same-table}
 use Rattle.model.proofs.Sweeps.{made-append, made-more}
 use Rattle.tables.specs.Board.{board, table-of}
 use Rattle.tables.specs.Job.{reservoir-of, Holds, Kinds, Serves, Fit}
 use Rattle.tables.specs.declared.Job.{Job}
 use Rattle.tables.proofs.Board.{length-table, windows-board, cage-kept}
 use Rattle.cages.specs.Masking.{together, Homed, Masked, Joined}
-use Rattle.rounds.specs.State.{state-of, Held, Grown, Leads, Made}
+use Rattle.rounds.specs.State.{state-of, Held, Grown, Made}
 use Rattle.rounds.specs.Sweeps.{lags-attempts, events-attempts}
 use Rattle.rounds.specs.declared.Progress.{Progress}
+use Rattle.members.specs.Members.{Swept, sets-attempts, SaneSets}
 use Rattle.rounds.proofs.Moves.{grown-none, grown-more}
 use Rattle.turns.specs.Turns.{Works, Done}
 
@@ -276,12 +277,24 @@ pub done-all : (j : Call) {n e : ℕ} {b buffer b₁ buffer₁ : List ℤ} {p p�
 done-all j {n} {e} {b} {buffer} {b₁} {buffer₁} {p} {p₁} a q d =
     subst (λ x. Done j n (each-of (event-attempts j) 0 x) b buffer p b₁ buffer₁ p₁) (q ∙ sym a) d
 
--- A round is its two parts.
-pub done-round : (j : Call) {n : ℕ} {b buffer b₁ buffer₁ b₂ buffer₂ : List ℤ} {p p₁ p₂ : Progress} → Done j n (lags-attempts j) b buffer p b₁ buffer₁ p₁ → Done j n (events-attempts j) b₁ buffer₁ p₁ b₂ buffer₂ p₂ → Done j n (agenda j) b buffer p b₂ buffer₂ p₂
-unfolding agenda
-done-round j {n} {b} {buffer} d m = done-then (made-append (length buffer) j (lags-attempts j) (events-attempts j)) d m
+-- ---- sets
 
--- ---- lags, and a round of one cage
+-- The job's sets are those that its questions let pass.
+pub sets-sane : {j : Call} {n : ℕ} {W : Windows} → Works j n W → SaneSets n (j .set-table)
+sets-sane w =
+    record { few = w .sane .few-sets; set-sane = λ g l. rw (← w .events-are) (w .sane .set-sane g l) }
+
+pub sets-done : (j : Call) {n : ℕ} {W : Windows} {b buffer b′ buffer′ : List ℤ} {p q : Progress} → Works j n W → Swept n (j .set-table) sets-attempts b buffer p b′ buffer′ q → Done j n (sets-attempts j) b buffer p b′ buffer′ q
+sets-done j w s = record { is = s .is j (record { events-are = w .events-are; sets-are = refl }); kinds = s .kinds; grown = s .grown }
+
+-- A round is its three parts.
+pub done-round : (j : Call) {n : ℕ} {b buffer b₁ buffer₁ b₂ buffer₂ b₃ buffer₃ : List ℤ} {p p₁ p₂ p₃ : Progress} → Done j n (lags-attempts j) b buffer p b₁ buffer₁ p₁ → Done j n (sets-attempts j) b₁ buffer₁ p₁ b₂ buffer₂ p₂ → Done j n (events-attempts j) b₂ buffer₂ p₂ b₃ buffer₃ p₃ → Done j n (agenda j) b buffer p b₃ buffer₃ p₃
+unfolding agenda
+done-round j {n} {b} {buffer} {b₁} {buffer₁} d m o =
+    done-then (made-append (length buffer) j (lags-attempts j) (sets-attempts j ++ events-attempts j)) d
+    (done-then (made-append (length buffer₁) j (sets-attempts j) (events-attempts j)) m o)
+
+-- ---- lags, and the events of one cage
 
 module _ (j : Call) (n : ℕ) (b : List ℤ) (w : Works j n (board b)) (k : Job) (told : (k .horizon .0 ≡ j .horizon) × (reservoir-of (k .reservoir) ≡ cage-at (j .cage-table) 0) × (k .events ≡ n)) where
   pub first-fits : Fit k (j .lag-table)
@@ -315,11 +328,11 @@ module _ (j : Call) (n : ℕ) (b : List ℤ) (w : Works j n (board b)) (k : Job)
           kinds = λ y l. w .kinds y (rw (w .events-are) at l);
         }
 
-    pub round-done : {buffer b′ buffer′ : List ℤ} {p q : Progress} → Made k (j .lag-table) agenda b buffer p b′ buffer′ q → Done j n (agenda j) b buffer p b′ buffer′ q
-    round-done {buffer} {b′} {buffer′} {p} {q} r =
+    pub events-done : {buffer b′ buffer′ : List ℤ} {p q : Progress} → Made k (j .lag-table) events-attempts b buffer p b′ buffer′ q → Done j n (events-attempts j) b buffer p b′ buffer′ q
+    events-done {buffer} {b′} {buffer′} {p} {q} r =
         let is = r .is j one-serves in
         record {
-          is = subst (λ x. state-of x (j .window-table) b′ buffer′ q ≡ made (length buffer) j (agenda j) (state-of x (j .window-table) b buffer p)) (told .2) is;
+          is = subst (λ x. state-of x (j .window-table) b′ buffer′ q ≡ made (length buffer) j (events-attempts j) (state-of x (j .window-table) b buffer p)) (told .2) is;
           kinds = λ y l. r .kinds y (rw (told .2) l);
           grown = subst (λ x. Grown x buffer p b′ buffer′ q) (told .2) (r .grown);
         }

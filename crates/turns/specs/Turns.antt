@@ -7,7 +7,7 @@ use lib.ListN.{length}
 use Rattle.model.specs.Job.{Windows, events, sent, Job as Call}
 use Rattle.model.specs.Standing.{Sane}
 use Rattle.model.specs.Agenda.{Attempt}
-use Rattle.model.specs.Rounds.{State, made}
+use Rattle.model.specs.Rounds.{made}
 use Rattle.tables.specs.Board.{board}
 use Rattle.tables.specs.Job.{Kinds}
 use Rattle.rounds.specs.State.{state-of, Grown}

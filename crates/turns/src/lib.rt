@@ -1,10 +1,11 @@
-// A round of a call: of one cage at once, of several cage by cage, since at each event a job is one of that event's cage, the others neutral.
+// A round of a call: lags, sets, events. Of one cage all events are taken at once, of several each in its cage, since at each event a job is one of that event's cage, the others neutral.
 use cages::join;
 use cages::mask;
+use members::all_sets;
 use rounds::Progress;
+use rounds::sweeps::all_events;
 use rounds::sweeps::all_lags;
 use rounds::sweeps::event_rules;
-use rounds::sweeps::round;
 use tables::Job;
 use tables::Time;
 use tables::cage_at;
@@ -40,14 +41,15 @@ fn one_event(
     cages: &[i32],
     table: &[i32],
     lags: &[i32],
+    sets: &[i32],
     e: usize,
     buffer: &mut [i32],
     p: Progress,
 ) -> Progress
-    requires { ⌜ Works (call (h .0) (now cages) (now table) (now lags)) n (board (now b)) × Held n (now b) (now buffer) p × (e < n) ⌝ }
+    requires { ⌜ Works (call (h .0) (now cages) (now table) (now lags) (now sets)) n (board (now b)) × Held n (now b) (now buffer) p × (e < n) ⌝ }
     ensures { λ q. ⌜
-        Done (call (h .0) (now (cages .entry)) (now (table .entry)) (now (lags .entry))) n
-        (event-attempts (call (h .0) (now (cages .entry)) (now (table .entry)) (now (lags .entry))) e)
+        Done (call (h .0) (now (cages .entry)) (now (table .entry)) (now (lags .entry)) (now (sets .entry))) n
+        (event-attempts (call (h .0) (now (cages .entry)) (now (table .entry)) (now (lags .entry)) (now (sets .entry))) e)
         (now (b .entry)) (now (buffer .entry)) p (now (b .exit)) (now (buffer .exit)) q
         ⌝ }
 {
@@ -67,20 +69,21 @@ fn each_event(
     cages: &[i32],
     table: &[i32],
     lags: &[i32],
+    sets: &[i32],
     buffer: &mut [i32],
     p: Progress,
 ) -> Progress
-    requires { ⌜ Works (call (h .0) (now cages) (now table) (now lags)) n (board (now b)) × Held n (now b) (now buffer) p ⌝ }
+    requires { ⌜ Works (call (h .0) (now cages) (now table) (now lags) (now sets)) n (board (now b)) × Held n (now b) (now buffer) p ⌝ }
     ensures { λ q. ⌜
-        Done (call (h .0) (now (cages .entry)) (now (table .entry)) (now (lags .entry))) n
-        (events-attempts (call (h .0) (now (cages .entry)) (now (table .entry)) (now (lags .entry))))
+        Done (call (h .0) (now (cages .entry)) (now (table .entry)) (now (lags .entry)) (now (sets .entry))) n
+        (events-attempts (call (h .0) (now (cages .entry)) (now (table .entry)) (now (lags .entry)) (now (sets .entry))))
         (now (b .entry)) (now (buffer .entry)) p (now (b .exit)) (now (buffer .exit)) q
         ⌝ }
 {
     let mut q = p;
     let mut e: usize = 0;
     while e < n {
-        q = one_event(b, h, n, cages, table, lags, e, buffer, q);
+        q = one_event(b, h, n, cages, table, lags, sets, e, buffer, q);
         e += 1;
     }
     q
@@ -94,13 +97,14 @@ fn each_lag(
     cages: &[i32],
     table: &[i32],
     lags: &[i32],
+    sets: &[i32],
     buffer: &mut [i32],
     p: Progress,
 ) -> Progress
-    requires { ⌜ Works (call (h .0) (now cages) (now table) (now lags)) n (board (now b)) × Held n (now b) (now buffer) p ⌝ }
+    requires { ⌜ Works (call (h .0) (now cages) (now table) (now lags) (now sets)) n (board (now b)) × Held n (now b) (now buffer) p ⌝ }
     ensures { λ q. ⌜
-        Done (call (h .0) (now (cages .entry)) (now (table .entry)) (now (lags .entry))) n
-        (lags-attempts (call (h .0) (now (cages .entry)) (now (table .entry)) (now (lags .entry))))
+        Done (call (h .0) (now (cages .entry)) (now (table .entry)) (now (lags .entry)) (now (sets .entry))) n
+        (lags-attempts (call (h .0) (now (cages .entry)) (now (table .entry)) (now (lags .entry)) (now (sets .entry))))
         (now (b .entry)) (now (buffer .entry)) p (now (b .exit)) (now (buffer .exit)) q
         ⌝ }
 {
@@ -108,7 +112,7 @@ fn each_lag(
     all_lags(b, lags, k, buffer, p)
 }
 
-// A round of a job of one cage.
+// All events of a job of one cage, at once.
 fn together(
     b: &mut [i32; 256],
     h: Time,
@@ -116,25 +120,51 @@ fn together(
     cages: &[i32],
     table: &[i32],
     lags: &[i32],
+    sets: &[i32],
     buffer: &mut [i32],
     p: Progress,
 ) -> Progress
     requires { ⌜
-        Works (call (h .0) (now cages) (now table) (now lags)) n (board (now b))
+        Works (call (h .0) (now cages) (now table) (now lags) (now sets)) n (board (now b))
         × Held n (now b) (now buffer) p
         × (length (now cages) ≡ 4)
         ⌝ }
     ensures { λ q. ⌜
-        Done (call (h .0) (now (cages .entry)) (now (table .entry)) (now (lags .entry))) n
-        (agenda (call (h .0) (now (cages .entry)) (now (table .entry)) (now (lags .entry))))
+        Done (call (h .0) (now (cages .entry)) (now (table .entry)) (now (lags .entry)) (now (sets .entry))) n
+        (events-attempts (call (h .0) (now (cages .entry)) (now (table .entry)) (now (lags .entry)) (now (sets .entry))))
         (now (b .entry)) (now (buffer .entry)) p (now (b .exit)) (now (buffer .exit)) q
         ⌝ }
 {
     let k = job_of(h, n, cages, 0);
-    round(b, lags, k, buffer, p)
+    all_events(b, lags, k, buffer, p)
 }
 
-// A round of a call: lags in table order, then events in order.
+// All events in order: of one cage at once, of several each as its cage sees it.
+fn every_event(
+    b: &mut [i32; 256],
+    h: Time,
+    n: usize,
+    cages: &[i32],
+    table: &[i32],
+    lags: &[i32],
+    sets: &[i32],
+    buffer: &mut [i32],
+    p: Progress,
+) -> Progress
+    requires { ⌜ Works (call (h .0) (now cages) (now table) (now lags) (now sets)) n (board (now b)) × Held n (now b) (now buffer) p ⌝ }
+    ensures { λ q. ⌜
+        Done (call (h .0) (now (cages .entry)) (now (table .entry)) (now (lags .entry)) (now (sets .entry))) n
+        (events-attempts (call (h .0) (now (cages .entry)) (now (table .entry)) (now (lags .entry)) (now (sets .entry))))
+        (now (b .entry)) (now (buffer .entry)) p (now (b .exit)) (now (buffer .exit)) q
+        ⌝ }
+{
+    if cages.len() == 4 {
+        return together(b, h, n, cages, table, lags, sets, buffer, p);
+    }
+    each_event(b, h, n, cages, table, lags, sets, buffer, p)
+}
+
+// A round of a call: lags in table order, then sets in order, then events in order.
 pub fn turn(
     b: &mut [i32; 256],
     h: Time,
@@ -142,19 +172,18 @@ pub fn turn(
     cages: &[i32],
     table: &[i32],
     lags: &[i32],
+    sets: &[i32],
     buffer: &mut [i32],
     p: Progress,
 ) -> Progress
-    requires { ⌜ Works (call (h .0) (now cages) (now table) (now lags)) n (board (now b)) × Held n (now b) (now buffer) p ⌝ }
+    requires { ⌜ Works (call (h .0) (now cages) (now table) (now lags) (now sets)) n (board (now b)) × Held n (now b) (now buffer) p ⌝ }
     ensures { λ q. ⌜
-        Done (call (h .0) (now (cages .entry)) (now (table .entry)) (now (lags .entry))) n
-        (agenda (call (h .0) (now (cages .entry)) (now (table .entry)) (now (lags .entry))))
+        Done (call (h .0) (now (cages .entry)) (now (table .entry)) (now (lags .entry)) (now (sets .entry))) n
+        (agenda (call (h .0) (now (cages .entry)) (now (table .entry)) (now (lags .entry)) (now (sets .entry))))
         (now (b .entry)) (now (buffer .entry)) p (now (b .exit)) (now (buffer .exit)) q
         ⌝ }
 {
-    if cages.len() == 4 {
-        return together(b, h, n, cages, table, lags, buffer, p);
-    }
-    let q = each_lag(b, h, n, cages, table, lags, buffer, p);
-    each_event(b, h, n, cages, table, lags, buffer, q)
+    let lagged = each_lag(b, h, n, cages, table, lags, sets, buffer, p);
+    let bound = all_sets(b, sets, n, buffer, lagged);
+    every_event(b, h, n, cages, table, lags, sets, buffer, bound)
 }

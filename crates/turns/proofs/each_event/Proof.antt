@@ -9,12 +9,12 @@ use Rattle.turns.proofs.each_event.Statement.{statement}
 use Rattle.turns.proofs.each_event.Tie as tie
 
 abbrev Inv-loop : tie.InvT-loop
-Inv-loop b₀ h n cages table lags buffer₀ q₀ e₀ b buffer q e =
-    let j = call (h .0) cages table lags in
+Inv-loop b₀ h n cages table lags sets buffer₀ q₀ e₀ b buffer q e =
+    let j = call (h .0) cages table lags sets in
     (e ≤ n) × Done j n (each-of (event-attempts j) 0 e) b₀ buffer₀ q₀ b buffer q
 
 abbrev μ-loop : tie.MeasureT-loop
-μ-loop b₀ h n cages table lags buffer₀ q₀ e₀ b buffer q e = n - e
+μ-loop b₀ h n cages table lags sets buffer₀ q₀ e₀ b buffer q e = n - e
 
 loop-holds : tie.Need-loop-holds Inv-loop μ-loop
 loop-holds c = (omega arith, done-none _ (c .pre .1))

@@ -1,40 +1,28 @@
--- `turns::turn` makes a round: at once, or lags and then event by event. Assumes nothing.
+-- `turns::turn` makes a round: lags, sets, events. Assumes nothing.
+use mathlib.Core.Path.{_∙_}
+use Rattle.turns.proofs.Turning.{works-next, sets-sane, sets-done, done-round}
 use borrow.Author.Needs.{needs}
-use Rattle.turns.proofs.Turning.{works-next, done-round}
 use Rattle.turns.proofs.turn.Statement.{statement}
 use Rattle.turns.proofs.turn.Tie as tie
 
-together-requires : tie.Need-together-requires
-together-requires c κs = search needs
+each-lag-requires : tie.Need-each-lag-requires
+each-lag-requires c κs = search needs
+
+all-sets-requires : tie.Need-all-sets-requires
+all-sets-requires c κs = (c .before .before .before .each-lag .ensures .grown .held, sets-sane (c .before .before .before .before .before .before .pre .0))
+
+every-event-requires : tie.Need-every-event-requires
+every-event-requires c κs =
+    let s = c .before .before .before .all-sets .ensures in
+    (works-next (c .before .before .before .before .before .before .before .before .before .before .pre .0) (λ y l. s .kinds y l ∙ c .before .before .before .before .before .before .before .each-lag .ensures .kinds y l), s .grown .held)
 
 same-length : tie.Need-same-length
 same-length c = search needs
 
 returns : tie.Need-returns
-returns c = search needs
-
-each-lag-requires : tie.Need-each-lag-requires
-each-lag-requires c κs = search needs
-
-each-event-requires : tie.Need-each-event-requires
-each-event-requires c κs =
-    let d = c .before .before .before .each-lag .ensures in
-    (works-next (c .before .before .before .before .before .before .before .pre .0) (d .kinds), d .grown .held)
-
-same-length-2 : tie.Need-same-length-2
-same-length-2 c = search needs
-
-returns-2 : tie.Need-returns-2
-returns-2 c = done-round _ (c .before .before .before .before .before .each-lag .ensures) (c .before .each-event .ensures)
+returns c = done-round _ (c .before .before .before .before .before .before .before .before .before .each-lag .ensures) (sets-done _ (c .before .before .before .before .before .before .before .before .before .before .before .before .pre .0) (c .before .before .before .before .before .all-sets .ensures)) (c .before .every-event .ensures)
 
 pub turn-spec : {M : Type 1} → statement M
 turn-spec =
     tie.close
-    (tie.spec
-    together-requires
-    same-length
-    returns
-    each-lag-requires
-    each-event-requires
-    same-length-2
-    returns-2)
+    (tie.spec each-lag-requires all-sets-requires every-event-requires same-length returns)
