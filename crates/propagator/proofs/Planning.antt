@@ -2,16 +2,16 @@
 -- Assumes nothing.
 use mathlib.Core.Path.{_≡_, refl, sym, ap, _∙_}
 use mathlib.Core.List.{List, _++_, append-assoc}
-use Prim.Native.Nat.{ℕ, _+_, _*_, _/_, _≤_}
+use Prim.Native.Nat.{ℕ, _+_, _*_, _≤_}
 use native.Mathlib.Omega.{arith}
 use lib.IntN.{ℤ}
 use lib.ListN.{length, take, drop, take-append-drop}
 use lib.Seq.{length-take-le}
-use Rattle.model.specs.Job.{h-min, h-max, windows, produces, events, sent, Job as Call}
+use Rattle.model.specs.Job.{h-min, h-max, windows, produces, events, Job as Call}
 use Rattle.model.specs.Slips.{trailer}
 use Rattle.model.specs.Rounds.{run, start}
 use Rattle.model.specs.Questions.{pass, questions}
-use Rattle.model.specs.Planner.{done, planned, plan}
+use Rattle.model.specs.Planner.{done, plan}
 use Rattle.model.proofs.Questions.{asked}
 use Rattle.model.proofs.Ranges.{end-range}
 use Rattle.tables.specs.Board.{board, table-of, Loaded}

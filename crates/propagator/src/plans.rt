@@ -39,18 +39,25 @@ pub fn answer(e: Ended, length: usize) -> Answer
 }
 
 // The run of a call whose questions passed, with both lent tables written.
-fn planned(h: Time, cages: &[i32], table: &mut [i32], lags: &[i32], buffer: &mut [i32]) -> Answer
-    requires { ⌜ questions (call (h .0) (now cages) (now table) (now lags)) (length (now buffer)) ≡ pass ⌝ }
+fn planned(
+    h: Time,
+    cages: &[i32],
+    table: &mut [i32],
+    lags: &[i32],
+    sets: &[i32],
+    buffer: &mut [i32],
+) -> Answer
+    requires { ⌜ questions (call (h .0) (now cages) (now table) (now lags) (now sets)) (length (now buffer)) ≡ pass ⌝ }
     ensures { λ r. ⌜
         Outcomes
-        (plan (call (h .0) (now (cages .entry)) (now (table .entry)) (now (lags .entry))) (now (buffer .entry)))
+        (plan (call (h .0) (now (cages .entry)) (now (table .entry)) (now (lags .entry)) (now (sets .entry))) (now (buffer .entry)))
         (now (table .exit)) (now (buffer .exit)) r
         ⌝ }
 {
     let n = table.len() / 5;
     let mut b: [i32; 256] = [0; 256];
     load(table, n, &mut b);
-    let e = run(&mut b, h, n, cages, table, lags, buffer);
+    let e = run(&mut b, h, n, cages, table, lags, sets, buffer);
     let p = e.progress;
     let used = p.used;
     let length = append_trailer(buffer, used, p.slips, p.last);
@@ -67,15 +74,22 @@ fn refused(r: Refusal, table: &mut [i32]) -> Answer
 
 // The planner: the reply, and every word of the window table and the slip buffer, as document 01 says. A refusal changes no lent word.
 // It rules out a planner that writes no slip (no_slip) and one that answers conflict always (conflict_always).
-pub fn plan(h: i32, cages: &[i32], table: &mut [i32], lags: &[i32], buffer: &mut [i32]) -> Answer
-    ensures answer { λ r. ⌜ reply-of r ≡ plan (call h (now (cages .entry)) (now (table .entry)) (now (lags .entry))) (now (buffer .entry)) .reply ⌝ }
-    ensures windows { λ r. ⌜ now (table .exit) ≡ plan (call h (now (cages .entry)) (now (table .entry)) (now (lags .entry))) (now (buffer .entry)) .table ⌝ }
-    ensures slips { λ r. ⌜ now (buffer .exit) ≡ plan (call h (now (cages .entry)) (now (table .entry)) (now (lags .entry))) (now (buffer .entry)) .buffer ⌝ }
+pub fn plan(
+    h: i32,
+    cages: &[i32],
+    table: &mut [i32],
+    lags: &[i32],
+    sets: &[i32],
+    buffer: &mut [i32],
+) -> Answer
+    ensures answer { λ r. ⌜ reply-of r ≡ plan (call h (now (cages .entry)) (now (table .entry)) (now (lags .entry)) (now (sets .entry))) (now (buffer .entry)) .reply ⌝ }
+    ensures windows { λ r. ⌜ now (table .exit) ≡ plan (call h (now (cages .entry)) (now (table .entry)) (now (lags .entry)) (now (sets .entry))) (now (buffer .entry)) .table ⌝ }
+    ensures slips { λ r. ⌜ now (buffer .exit) ≡ plan (call h (now (cages .entry)) (now (table .entry)) (now (lags .entry)) (now (sets .entry))) (now (buffer .entry)) .buffer ⌝ }
 {
     let horizon = Time(h);
-    let check = questions(horizon, cages, table, lags, buffer.len());
+    let check = questions(horizon, cages, table, lags, sets, buffer.len());
     match check {
         Check::Refuse(r) => refused(r, table),
-        Check::Pass => planned(horizon, cages, table, lags, buffer),
+        Check::Pass => planned(horizon, cages, table, lags, sets, buffer),
     }
 }

@@ -45,18 +45,19 @@ pub fn run(
     cages: &[i32],
     table: &[i32],
     lags: &[i32],
+    sets: &[i32],
     buffer: &mut [i32],
 ) -> Ended
-    requires { ⌜ Works (call (h .0) (now cages) (now table) (now lags)) n (board (now b)) × Held n (now b) (now buffer) fresh ⌝ }
+    requires { ⌜ Works (call (h .0) (now cages) (now table) (now lags) (now sets)) n (board (now b)) × Held n (now b) (now buffer) fresh ⌝ }
     ensures { λ q. ⌜
-        Ran (call (h .0) (now (cages .entry)) (now (table .entry)) (now (lags .entry))) n
+        Ran (call (h .0) (now (cages .entry)) (now (table .entry)) (now (lags .entry)) (now (sets .entry))) n
         (now (b .entry)) (now (buffer .entry)) (now (b .exit)) (now (buffer .exit)) q
         ⌝ }
 {
     let mut p = start();
     let mut rounds: usize = 0;
     loop {
-        let q = turn(b, h, n, cages, table, lags, buffer, p);
+        let q = turn(b, h, n, cages, table, lags, sets, buffer, p);
         rounds += 1;
         if !is_running(q) {
             return Ended {

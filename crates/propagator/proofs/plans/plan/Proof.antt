@@ -30,7 +30,7 @@ returns : tie.Need-returns
 returns c =
     let s = c .before .before .before .before .before .before .before .before in
     let a = s .args in
-    let j = call (toZ w32 (ofZ w32 (a .h))) (a .cages .now) (a .table .now) (a .lags .now) in
+    let j = call (toZ w32 (ofZ w32 (a .h))) (a .cages .now) (a .table .now) (a .lags .now) (a .sets .now) in
     let o = rw (toZ-ofZ (s .fits .h)) at (plan-refused j (a .buffer .now) (c .before .before .before .before .before .before .questions .ensures) (c .before .before .before .before .check .given .1) (c .before .refused .ensures)) in
     (o .answer, (o .windows, o .slips))
 

@@ -10,10 +10,10 @@ use Rattle.propagator.proofs.runs.run.Statement.{statement}
 use Rattle.propagator.proofs.runs.run.Tie as tie
 
 abbrev Inv-loop : tie.InvT-loop
-Inv-loop b₀ h n cages table lags buffer₀ p₀ rounds₀ b buffer p rounds = Rolling (call (h .0) cages table lags) n b₀ buffer₀ b buffer p rounds
+Inv-loop b₀ h n cages table lags sets buffer₀ p₀ rounds₀ b buffer p rounds = Rolling (call (h .0) cages table lags sets) n b₀ buffer₀ b buffer p rounds
 
 abbrev μ-loop : tie.MeasureT-loop
-μ-loop b₀ h n cages table lags buffer₀ p₀ rounds₀ b buffer p rounds = length buffer₀ - p .slips
+μ-loop b₀ h n cages table lags sets buffer₀ p₀ rounds₀ b buffer p rounds = length buffer₀ - p .slips
 
 start-requires : tie.Need-start-requires Inv-loop μ-loop
 start-requires c κs = tt
