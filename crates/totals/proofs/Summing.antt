@@ -5,6 +5,7 @@ use mathlib.Core.Bool.{Bool, true, false}
 use mathlib.Core.List.{List}
 use Prim.Native.Nat.{ℕ, _+_, _<_, _≤_}
 use native.Mathlib.Omega.{arith}
+use borrow.Author.Tests.{ne-eqb}
 use native.Mathlib.Numerals.{add-one, unary-clauses}
 use lib.ListN.{getD}
 use lib.Dec.{T, eqb, eqb-refl}
@@ -13,13 +14,14 @@ use Rattle.integers.specs.Range.{Within}
 use Rattle.integers.specs.Sum.{sum}
 use Rattle.integers.proofs.Linear.{ints, neg-law}
 use Rattle.integers.proofs.Sums.{sum-within}
-use Rattle.model.specs.Job.{h-min, h-max, Windows, events, in-set, set-size, member, set-begin, member-word, Job as Call}
+use Rattle.integers.proofs.Tests.{is-true}
+use Rattle.model.specs.Job.{any, h-min, h-max, Windows, events, in-set, set-size, member, set-begin, member-word, Job as Call}
 use Rattle.model.specs.Standing.{Ranged, SaneSet}
 use Rattle.model.specs.View.{side}
 use Rattle.model.proofs.Totals.{few-members}
 use Rattle.model.proofs.Premises.{any-in}
 use Rattle.sets.specs.Sets.{word-at, count-at}
-use Rattle.totals.specs.Totals.{event-at, limit-at, Adds, SetOf}
+use Rattle.totals.specs.Totals.{event-at, limit-at, Listed, Adds, SetOf}
 
 -- ---- the loop
 
@@ -54,24 +56,43 @@ module _ {ws : List ℤ} {at : ℕ} {W : Windows} (a : Adds ws at W) where
 
 -- ---- a set that the questions let pass
 
-pub adds-at : {n : ℕ} {ws : List ℤ} {g : ℕ} {W : Windows} → SaneSet n ws g → Ranged n W → Adds ws (set-begin ws g) W
+listed-at : {n : ℕ} {ws : List ℤ} {g : ℕ} → SaneSet n ws g → Listed ws (set-begin ws g)
 unfolding set-begin
+listed-at s = record { inside = s .inside; sign = s .member-sign }
+
+pub adds-at : {n : ℕ} {ws : List ℤ} {g : ℕ} {W : Windows} → SaneSet n ws g → Ranged n W → Adds ws (set-begin ws g) W
 adds-at {n} {ws} {g} {W} s r =
     let few = few-members s in
     record {
-      inside = s .inside;
+      listed = listed-at s;
       few = omega (arith, r .few);
       least-range = s .least-range;
       most-range = s .most-range;
-      sign = s .member-sign;
       real = λ i l. omega (arith, s .member-real i l, r .few);
       low = λ i l. r .range (natAbs (member-word ws g i)) (s .member-real i l) h-min;
       high = λ i l. r .range (natAbs (member-word ws g i)) (s .member-real i l) h-max;
     }
 
--- Its members can be added up.
+-- Its members can be read, and added up.
+pub reads : {n : ℕ} {ws : List ℤ} {at g : ℕ} → at ≡ set-begin ws g → SaneSet n ws g → Listed ws at
+reads {n} {ws} e s = subst (Listed ws) (sym e) (listed-at s)
+
 pub adds : {ws : List ℤ} {at : ℕ} {j : Call} {g : ℕ} {W : Windows} → SetOf ws at j g → Ranged (events j) W → Adds ws at W
 adds {ws} {at} {j} {g} {W} s r = subst (λ at. Adds ws at W) (sym (s .begins)) (adds-at (s .sane) r)
+
+-- ---- a member looked for
+
+pub any-none : (p : ℕ → Bool) → any 0 p ≡ false
+unfolding any
+any-none p = refl
+
+module _ {y e : ℕ} where
+  pub any-not : (i : ℕ) (m : ℕ → ℕ) → any i (λ k. eqb (m k) y) ≡ false → e ≡ m i → (e ≡ y → ⊥) → any (i + 1) (λ k. eqb (m k) y) ≡ false
+  unfolding any
+  any-not i m a p d = rw (add-one i, a, ← p, ne-eqb e y d)
+
+  pub any-found : (n i : ℕ) (m : ℕ → ℕ) → i < n → e ≡ m i → e ≡ y → true ≡ any n (λ k. eqb (m k) y)
+  any-found n i m l p q = sym (is-true (any n (λ k. eqb (m k) y)) (any-in n i (λ k. eqb (m k) y) l (rw (← p, q) (eqb-refl y))))
 
 -- What is listed is a member.
 pub listed : (j : Call) (g i : ℕ) → i < set-size j g → T (in-set j g (member j g i))

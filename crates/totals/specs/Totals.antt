@@ -33,13 +33,17 @@ total-at m ws at W = sum (count-at ws at) (λ i. side m W (event-at ws at i) h-m
 abbrev pub slack-at : Bool → List ℤ → ℕ → Windows → ℤ
 slack-at m ws at W = total-at m ws at W -ℤ limit-at m ws at
 
--- It is whole, and its numbers on windows W are in range.
-pub record Adds (ws : List ℤ) (at : ℕ) (W : Windows) : Type 0 where
+-- It is whole, and its members are not negative.
+pub record Listed (ws : List ℤ) (at : ℕ) : Type 0 where
   pub inside : at + 3 + count-at ws at ≤ length ws
+  pub sign : (i : ℕ) → i < count-at ws at → pos 0 ≤ℤ member-at ws at i
+
+-- Besides, its numbers on windows W are in range.
+pub record Adds (ws : List ℤ) (at : ℕ) (W : Windows) : Type 0 where
+  pub listed : Listed ws at
   pub few : count-at ws at ≤ 64
   pub least-range : Within (word-at ws at 0) 639936
   pub most-range : Within (word-at ws at 1) 639936
-  pub sign : (i : ℕ) → i < count-at ws at → pos 0 ≤ℤ member-at ws at i
   pub real : (i : ℕ) → i < count-at ws at → event-at ws at i < 64
   pub low : (i : ℕ) → i < count-at ws at → Within (W (event-at ws at i) h-min) 9999
   pub high : (i : ℕ) → i < count-at ws at → Within (W (event-at ws at i) h-max) 9999

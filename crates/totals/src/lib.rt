@@ -11,18 +11,18 @@ use tables::Height;
 use tables::ends::height_word;
 ghost use mathlib.Core.Path.{_≡_};
 ghost use Prim.Native.Nat.{ℕ, _+_, _<_, _≤_};
-ghost use lib.Dec.{T};
+ghost use lib.Dec.{T, eqb};
 ghost use lib.IntN.{pos};
 ghost use lib.ListN.{length};
 ghost use lib.Signed.{_≤ℤ_};
 ghost use Rattle.integers.specs.Range.{Within};
-ghost use Rattle.model.specs.Job.{h-min, h-max, events, in-set, Job as Call};
+ghost use Rattle.model.specs.Job.{h-min, h-max, any, events, in-set, Job as Call};
 ghost use Rattle.model.specs.Rules.{total, finding, own-end};
 ghost use Rattle.model.specs.Slips.{end};
 ghost use Rattle.tables.specs.Board.{board};
 ghost use Rattle.rules.specs.Values.{finding-of, effect-of};
 ghost use Rattle.sets.specs.Sets.{word-at, member-at, count-at};
-ghost use Rattle.totals.specs.Totals.{event-at, limit-at, total-at, Adds, SetOf, bound-by, does-by, Slack};
+ghost use Rattle.totals.specs.Totals.{event-at, limit-at, total-at, Listed, Adds, SetOf, bound-by, does-by, Slack};
 
 // ---- a set of the table
 
@@ -32,6 +32,21 @@ pub fn member(sets: &[i32], at: usize, i: usize) -> usize
     ensures { λ r. ⌜ r ≡ event-at (now (sets .entry)) at i ⌝ }
 {
     sets[at + (3 + i)] as usize
+}
+
+// Is y among its members?
+pub fn is_member(sets: &[i32], at: usize, count: usize, y: usize) -> bool
+    requires { ⌜ Listed (now sets) at × (count ≡ count-at (now sets) at) ⌝ }
+    ensures { λ r. ⌜ r ≡ any (count-at (now (sets .entry)) at) (λ i. eqb (event-at (now (sets .entry)) at i) y) ⌝ }
+{
+    let mut i: usize = 0;
+    while i < count {
+        if member(sets, at, i) == y {
+            return true;
+        }
+        i += 1;
+    }
+    false
 }
 
 // The limit that the sum of its members must reach on a side: the least total, in the mirror the most negated.

@@ -37,7 +37,7 @@ member-requires c κs =
     let s = c .before .before .before .before in
     let l = c .before .loop in
     let a = set-adds (s .pre .1) (l .inv .1 .grown .held .ranged) .0 in
-    (omega (arith, a .inside, s .pre .1 .size), a .sign (l .i) (omega (arith, s .pre .1 .size)))
+    (omega (arith, a .listed .inside, s .pre .1 .size), a .listed .sign (l .i) (omega (arith, s .pre .1 .size)))
 
 is-spared-requires : tie.Need-is-spared-requires Inv-loop μ-loop
 is-spared-requires c κs =

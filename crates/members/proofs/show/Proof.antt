@@ -21,7 +21,7 @@ member-requires : tie.Need-member-requires Inv-loop μ-loop
 member-requires c κs =
     let s = c .before .before in
     let l : c .before .loop .i < count-at (s .args .sets .now) (s .args .v .at) = omega (arith, s .pre .1) in
-    (omega (arith, s .pre .0 .inside), s .pre .0 .sign (c .before .loop .i) l)
+    (omega (arith, s .pre .0 .listed .inside), s .pre .0 .listed .sign (c .before .loop .i) l)
 
 show-event-requires : tie.Need-show-event-requires Inv-loop μ-loop
 show-event-requires c κs =

@@ -27,7 +27,7 @@ member-requires c κs =
     let p = c .before .before .pre in
     let l = c .before .loop in
     let s = c .loop-test .taken in
-    (omega (arith, p .0 .inside), p .0 .sign (l .i) (omega arith))
+    (omega (arith, p .0 .listed .inside), p .0 .listed .sign (l .i) (omega arith))
 
 side-h-max-requires : tie.Need-side-h-max-requires Inv-loop μ-loop
 side-h-max-requires c κs =
