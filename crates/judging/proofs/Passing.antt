@@ -1,28 +1,31 @@
 -- What a slip that names what is there gives its later questions.
 -- Assumes nothing.
 use mathlib.Core.Path.{_≡_, refl, _∙_}
-use mathlib.Core.Bool.{Bool, true, false, _&&_}
+use mathlib.Core.Bool.{Bool, true, false, cond, _&&_}
 use mathlib.Core.List.{List}
-use Prim.Native.Nat.{ℕ}
+use Prim.Native.Nat.{ℕ, _/_, _<_, _≤_}
+use native.Mathlib.Omega.{arith}
 use lib.Dec.{T}
 use lib.IntN.{ℤ, pos, natAbs}
+use lib.ListN.{length}
 use lib.Signed.{leZ}
-use Rattle.integers.specs.Range.{Within}
+use Rattle.integers.specs.Range.{Within, eqZ}
 use Rattle.integers.proofs.Linear.{ints}
-use Rattle.model.specs.Job.{End, t-min, t-max, h-min, h-max, meets, Windows, produces, Inside, Job as Call, events}
+use Rattle.model.specs.Job.{End, t-min, t-max, h-min, h-max, meets, Windows, produces, Inside, Job as Call, events, begun}
 use Rattle.model.specs.Standing.{span, Ranged}
-use Rattle.model.specs.Rules.{subjects, target-fits}
+use Rattle.model.specs.Rules.{Finding, finding, rule, own-end, effect, failed, subjects, target-fits}
 use Rattle.model.specs.Slips.{Premise, Explanation, rule-of, subject-of, target-of}
 use Rattle.model.specs.Questions.{is-event}
-use Rattle.model.specs.Reader.{names, premises-fit, kind-fits, all-true, narrowed}
+use Rattle.model.specs.Reader.{names, premises-fit, kind-fits, all-true, narrowed, as-strict, gives}
 use Rattle.model.proofs.Order.{inside-narrowed, narrowed-in}
 use Rattle.model.proofs.Sound.{named}
 use Rattle.tables.specs.Job.{Kinds, Fit}
+use Rattle.totals.proofs.Summing.{adds-at}
 use Rattle.tables.specs.declared.Job.{Job}
-use Rattle.slips.specs.Slip.{explanation-of, Stands}
+use Rattle.slips.specs.Slip.{headed, explanation-of}
 use Rattle.slips.specs.declared.Slip.{Slip}
-use Rattle.judging.specs.Ready.{Shares, Attempts}
-use Rattle.judging.proofs.Named.{subjects-are, event-is}
+use Rattle.judging.specs.Ready.{Shares, Grouped, Attempts, Totalled, Belongs}
+use Rattle.judging.proofs.Named.{subjects-are, subject-lag, subject-set, late-rule, event-is}
 
 -- ---- ranges and deliveries
 
@@ -48,17 +51,54 @@ narrowed-kinds {n} {wide} {W} fs i k t y l =
     go true q a b = omega ints
     go false q a b = let z = k y l ∙ q in omega ints
 
+-- ---- question 16
+
+-- A slip's rule gives its conclusion as its finding does.
+pub gives-by : (j : Call) (W : Windows) (s : Slip) (fs : List Premise) {e y : ℕ} {f : Finding} {r : Bool} → f ≡ finding (rule (s .rule)) j W e y → e ≡ natAbs (s .subject .0) → y ≡ natAbs (s .target .0) →
+    r ≡ cond (eqZ (s .kind .0) (pos 0)) (failed (effect (own-end (rule (s .rule))) W y f)) (as-strict (own-end (rule (s .rule))) (s .value .0) f) → r ≡ gives j W (headed s fs)
+unfolding gives
+gives-by j W s fs p q r h = h ∙ rw (p, q, r)
+
 -- ---- its rule can be tried
 
-module _ {k : Job} {ws : List ℤ} {j : Call} (h : Shares k ws j) (list : List ℤ) (s : Slip) (t : T (names j (explanation-of list s))) where
-  pub attempts : {X : Windows} {e y : ℕ} → Fit k ws → Stands list s → Ranged (k .events) X → e ≡ natAbs (s .subject .0) → y ≡ natAbs (s .target .0) → Attempts k ws X s e y
-  attempts f st r p q =
+module _ {k : Job} {ws gs : List ℤ} {j : Call} (h : Shares k ws gs j) (list : List ℤ) (s : Slip) (t : T (names j (explanation-of list s))) where
+  -- A lag's.
+  pub attempts : {X : Windows} {e y : ℕ} → Fit k ws → 1 ≤ s .rule → s .rule < 3 → Ranged (k .events) X → e ≡ natAbs (s .subject .0) → y ≡ natAbs (s .target .0) → Attempts k ws X s e y
+  attempts {X} {e} f low high r p q =
       let o = named j (explanation-of list s) t in
+      let lag = subject-lag (s .rule) k ws gs low high in
+      let there : e < length ws / 3 = rw (p, lag .1, ← subjects-are h (rule-of (explanation-of list s))) (o .subject-real) in
       record {
-        tries = record { fit = f; windows = r; first = st .rule-low; last = st .rule-high; subject = rw (p, ← subjects-are h (rule-of (explanation-of list s))) (o .subject-real); target = rw (q, ← h .events-are) (o .target-real) };
+        tries = record { fit = f; windows = r; first = low; last = omega arith; subject = rw (← lag .0) there; target = rw (q, ← h .events-are) (o .target-real) };
         subject = p;
         target = q;
       }
+
+  -- A set's.
+  pub totalled : {X : Windows} {e y : ℕ} → Grouped (k .events) gs → 17 ≤ s .rule → s .rule ≤ 18 → Ranged (k .events) X → e ≡ natAbs (s .subject .0) → y ≡ natAbs (s .target .0) → Totalled gs X s e y × Belongs gs j e y
+  totalled {X} {e} {y} f low high r p q =
+      let o = named j (explanation-of list s) t in
+      let there : e < begun gs 17 = rw (p, subject-set (s .rule) k ws gs low high, ← subjects-are h (rule-of (explanation-of list s))) (o .subject-real) in
+      let event : y < k .events = rw (q, ← h .events-are) (o .target-real) in
+      let sane = f .sane e there in (
+        record {
+          rule-low = low;
+          rule-high = high;
+          few = omega (arith, f .few);
+          adds = adds-at sane r;
+          there = omega (arith, r .few);
+          low = r .range y event h-min;
+          high = r .range y event h-max;
+          subject = p;
+          target = q;
+        },
+        record {
+          sets-are = h .sets-are;
+          sane = rw (h .events-are) sane;
+          event = rw (h .events-are) event;
+          member = rw (p, q) (rw (late-rule (s .rule) low high) at (o .target-right));
+        },
+      )
 
   pub facts-fit : T (premises-fit (k .events) (explanation-of list s .premises))
   facts-fit = rw (← h .events-are) (named j (explanation-of list s) t .premises-real)

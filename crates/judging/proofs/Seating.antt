@@ -25,7 +25,7 @@ use Rattle.rules.specs.Values.{family-of}
 use Rattle.rules.proofs.Giving.{variant-is}
 use Rattle.slips.specs.Slip.{headed, explanation-of}
 use Rattle.slips.specs.declared.Slip.{Slip}
-use Rattle.judging.specs.Ready.{call-of, Shares, Seated, Sought, AtHome, Attempts, Same}
+use Rattle.judging.specs.Ready.{call-of, Shares, Grouped, Seated, Sought, AtHome, Attempts, Same}
 use Rattle.judging.proofs.Named.{subjects-are, subject-event}
 
 -- ---- amounts shown or not
@@ -43,15 +43,18 @@ shown-within false h-max v w = omega ints
 
 -- ---- the call
 
-module _ (k : Job) (cs table ws : List ℤ) (seated : Seated k cs table ws) where
+module _ (k : Job) (cs table ws gs : List ℤ) (seated : Seated k cs table ws gs) where
   abbrev j : Call
-  j = call-of k cs table ws
+  j = call-of k cs table ws gs
 
   pub events-are : events j ≡ k .events
   events-are = omega (arith, seated .long)
 
-  pub shares : Shares k ws j
-  shares = record { events-are = events-are; lags-are = refl }
+  pub shares : Shares k ws gs j
+  shares = record { events-are = events-are; lags-are = refl; sets-are = refl }
+
+  pub grouped : Grouped (k .events) gs
+  grouped = record { few = seated .sane .few-sets; sane = λ g l. rw events-are at (seated .sane .set-sane g l) }
 
   pub homed : Homed (k .events) table
   homed =
@@ -157,20 +160,20 @@ lag-gives-bare j W s fs low high = go (s .rule) refl low high
     go (suc (suc (suc r))) e l h = absurd (omega arith)
 
 module _ {k : Job} {cs table ws : List ℤ} {W X : Windows} {s : Slip} {e y : ℕ} (a : AtHome k cs table ws W s e y) (r : Reservoir) (home : reservoir-of r ≡ cage-at cs (natAbs (cage-word table e)))
-    (masks : (z : ℕ) → z < k .events → (i : End) → X z i ≡ masked (here (call-of k cs table ws) e) W z i) where
+    (masks : (z : ℕ) → z < k .events → (i : End) → X z i ≡ masked (here (call-of k cs table ws (a .sets)) e) W z i) where
   abbrev of : Call
-  of = call-of k cs table ws
+  of = call-of k cs table ws (a .sets)
 
   -- The slip's rule can be tried in e's cage.
-  pub attempts-own : Attempts (own k cs table ws (a .seated) e (a .event) r home) ws X s e y
+  pub attempts-own : Attempts (own k cs table ws (a .sets) (a .seated) e (a .event) r home) ws X s e y
   attempts-own =
       record {
         tries = record {
-          fit = fit-own k cs table ws (a .seated) e (a .event) r home;
-          windows = range-own k cs table ws (a .seated) e (a .event) r home masks (a .range);
+          fit = fit-own k cs table ws (a .sets) (a .seated) e (a .event) r home;
+          windows = range-own k cs table ws (a .sets) (a .seated) e (a .event) r home masks (a .range);
           first = let l = a .rule-low in omega arith;
           last = a .rule-high;
-          subject = rw (← subject-event (s .rule) (own k cs table ws (a .seated) e (a .event) r home) ws (a .rule-low) (a .rule-high)) (a .event);
+          subject = rw (← subject-event (s .rule) (own k cs table ws (a .sets) (a .seated) e (a .event) r home) ws (a .sets) (a .rule-low) (a .rule-high) .0) (a .event);
           target = a .there;
         };
         subject = a .subject;
@@ -182,15 +185,20 @@ module _ {k : Job} {cs table ws : List ℤ} {W X : Windows} {s : Slip} {e y : �
   gives-own fs =
       let f = (s .rule - 3) % 3 in
       let is = variant-is (s .rule) (a .rule-low) (a .rule-high) in
-      let count = events-are k cs table ws (a .seated) in
+      let count = events-are k cs table ws (a .sets) (a .seated) in
       subst (λ z. gives of W (headed s fs) ≡ gives (alone of z) X (headed s fs)) (sym (a .subject))
       (gives-alone of (headed s fs) W X _ _ (family-of f) (sym is)
       (rw (← a .subject, count) (a .event)) (rw (← a .target, count) (a .there))
       (rw (← a .subject, ← a .target, is) (a .fits))
       (λ z p i. rw (← a .subject) (masks z (rw count at p) i)))
 
+-- Rules 3 to 14 read no set.
+pub gives-setless : (k : Job) (cs table ws gs hs : List ℤ) (W : Windows) (s : Slip) (fs : List Premise) → 3 ≤ s .rule → s .rule ≤ 14 → gives (call-of k cs table ws gs) W (headed s fs) ≡ gives (call-of k cs table ws hs) W (headed s fs)
+unfolding gives finding
+gives-setless k cs table ws gs hs W s fs low high = rw (← variant-is (s .rule) low high)
+
 -- On windows that agree with the fact windows on a board's events, the slip's rule is at home.
-module _ {k : Job} {cs table ws : List ℤ} {W X : Windows} {list : List ℤ} {s : Slip} {e y : ℕ} (a : Sought k cs table ws W list s e y) (same : Same X W) where
+module _ {k : Job} {cs table ws gs : List ℤ} {W X : Windows} {list : List ℤ} {s : Slip} {e y : ℕ} (a : Sought k cs table ws gs W list s e y) (same : Same X W) where
   few : k .events ≤ 64
   few = a .range .few
 
@@ -200,13 +208,13 @@ module _ {k : Job} {cs table ws : List ℤ} {W X : Windows} {list : List ℤ} {s
   pub sought-kinds : Kinds (k .events) X (windows table)
   sought-kinds z p = ap produces (same z (let f = few in omega arith) h-max) ∙ a .kinds z p
 
-  pub at-home : 3 ≤ s .rule → AtHome k cs table ws X s e y
-  at-home low =
-      let o = named (call-of k cs table ws) (explanation-of list s) (a .named) in
-      let h = shares k cs table ws (a .seated) in
-      let high = a .stands .rule-high in
-      let there : e < k .events = rw (a .subject, subject-event (s .rule) k ws low high, ← subjects-are h (rule (s .rule))) (o .subject-real) in
+  pub at-home : 3 ≤ s .rule → s .rule ≤ 14 → AtHome k cs table ws X s e y
+  at-home low high =
+      let o = named (call-of k cs table ws gs) (explanation-of list s) (a .named) in
+      let h = shares k cs table ws gs (a .seated) in
+      let there : e < k .events = rw (a .subject, subject-event (s .rule) k ws gs low high .1, ← subjects-are h (rule (s .rule))) (o .subject-real) in
       record {
+        sets = gs;
         seated = a .seated;
         range = sought-range;
         kinds = sought-kinds;

@@ -3,8 +3,8 @@ use mathlib.Core.Path.{sym, _∙_}
 use borrow.Author.Tests.{not-true, not-false}
 use Rattle.integers.proofs.Tests.{true-is}
 use Rattle.model.specs.Rules.{rule}
-use Rattle.rules.specs.Values.{subjects-of}
 use Rattle.slips.specs.Slip.{explanation-of}
+use Rattle.judging.specs.Ready.{subjects-in}
 use Rattle.judging.proofs.Named.{event-is, names-is}
 use borrow.Author.Needs.{needs}
 use Rattle.judging.proofs.naming.names.Statement.{statement}
@@ -35,7 +35,7 @@ returns-3 c =
     λ j h. rw (names-is h x, sym (c .before .before .before .before .before .subject-there .ensures) ∙ not-false _ (c .before .before .before .before .if1 .left), sym (c .before .before .before .is-event .ensures) ∙ not-false _ (c .before .before .if2 .left), sym (c .before .facts-fit .ensures) ∙ not-true _ (c .if3 .taken))
 
 index-requires : tie.Need-index-requires
-index-requires c κs = let a = c .before .before .before .before .before .before .args in event-is (subjects-of (rule (a .s .rule)) (a .k) (a .lags .now)) (a .s .subject .0) (true-is (sym (c .before .before .before .before .before .subject-there .ensures) ∙ not-false _ (c .before .before .before .before .if1 .left))) .1
+index-requires c κs = let a = c .before .before .before .before .before .before .args in event-is (subjects-in (rule (a .s .rule)) (a .k) (a .lags .now) (a .sets .now)) (a .s .subject .0) (true-is (sym (c .before .before .before .before .before .subject-there .ensures) ∙ not-false _ (c .before .before .before .before .if1 .left))) .1
 
 index-requires-2 : tie.Need-index-requires-2
 index-requires-2 c κs = let a = c .before .before .before .before .before .before .before .args in event-is (a .k .events) (a .s .target .0) (true-is (sym (c .before .before .before .before .is-event .ensures) ∙ not-false _ (c .before .before .before .if2 .left))) .1
@@ -43,8 +43,9 @@ index-requires-2 c κs = let a = c .before .before .before .before .before .befo
 target-right-requires : tie.Need-target-right-requires
 target-right-requires c κs =
     let a = c .before .before .before .before .before .before .before .before .args in
-    let e = event-is (subjects-of (rule (a .s .rule)) (a .k) (a .lags .now)) (a .s .subject .0) (true-is (sym (c .before .before .before .before .before .before .before .subject-there .ensures) ∙ not-false _ (c .before .before .before .before .before .before .if1 .left))) in
-    (c .before .before .before .before .before .before .before .before .pre .1 .rule-low, c .before .before .before .before .before .before .before .before .pre .1 .rule-high, c .before .before .before .before .before .before .before .before .pre .0, rw (c .before .index .ensures) (e .0))
+    let e = event-is (subjects-in (rule (a .s .rule)) (a .k) (a .lags .now) (a .sets .now)) (a .s .subject .0) (true-is (sym (c .before .before .before .before .before .before .before .subject-there .ensures) ∙ not-false _ (c .before .before .before .before .before .before .if1 .left))) in
+    let p = c .before .before .before .before .before .before .before .before .pre in
+    (p .2 .rule-low, p .2 .rule-high, p .2 .rule-apart, p .0, p .1, rw (c .before .index .ensures) (e .0))
 
 returns-4 : tie.Need-returns-4
 returns-4 c =
