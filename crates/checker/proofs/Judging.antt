@@ -36,12 +36,12 @@ use Rattle.checker.specs.declared.Judgement.the-variants.{Refused}
 
 -- ---- the judgement on a reading
 
-module _ (k : Job) (cs table ws list b′ : List ℤ) where
+module _ (k : Job) (cs table ws gs list b′ : List ℤ) where
   abbrev n : ℕ
   n = k .events
 
   abbrev j : Call
-  j = call-of k cs table ws
+  j = call-of k cs table ws gs
 
   abbrev reading-over : model.Read
   reading-over = read-from j (widest j) list (stop-of list) (natAbs (counted list)) 0 0 0 false table
@@ -77,9 +77,9 @@ module _ (k : Job) (cs table ws list b′ : List ℤ) where
 
 -- ---- the call read
 
-module _ (h : ℤ) (cs table ws list : List ℤ) (p : Passing h cs table ws list) where
-  facts : Asked (call h cs table ws) (length list)
-  facts = asked (call h cs table ws) (length list) (p .asked)
+module _ (h : ℤ) (cs table ws gs list : List ℤ) (p : Passing h cs table ws gs list) where
+  facts : Asked (call h cs table ws gs) (length list)
+  facts = asked (call h cs table ws gs) (length list) (p .asked)
 
   pub trailer-right : Trailed list
   trailer-right =
@@ -98,7 +98,7 @@ module _ (h : ℤ) (cs table ws list : List ℤ) (p : Passing h cs table ws list
   pub whole-events : length table ≡ 5 * (length table / 5)
   whole-events = facts .whole-events
 
-  pub called : (k : Job) (b wide : List ℤ) → k .horizon .0 ≡ h → reservoir-of (k .reservoir) ≡ cage-at cs 0 → k .events ≡ length table / 5 → Loaded (k .events) table b → Wide (k .events) (k .horizon .0) (board b) wide → Called k cs table ws wide b
+  pub called : (k : Job) (b wide : List ℤ) → k .horizon .0 ≡ h → reservoir-of (k .reservoir) ≡ cage-at cs 0 → k .events ≡ length table / 5 → Loaded (k .events) table b → Wide (k .events) (k .horizon .0) (board b) wide → Called k cs table ws gs wide b
   called k b wide e c m l o =
       record {
         seated = record { sane = rw e (facts .sane); first = sym c; long = rw m whole-events };

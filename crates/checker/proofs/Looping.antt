@@ -58,18 +58,18 @@ widest-stands {j} s = record { within = inside-refl (events j) (widest j); times
 
 -- ---- the loop
 
-module _ (k : Job) (cs table ws wide b₀ list : List ℤ) (stop count : ℕ) (call : Called k cs table ws wide b₀) where
+module _ (k : Job) (cs table ws gs wide b₀ list : List ℤ) (stop count : ℕ) (call : Called k cs table ws gs wide b₀) where
   abbrev n : ℕ
   n = k .events
 
   abbrev j : Call
-  j = call-of k cs table ws
+  j = call-of k cs table ws gs
 
   abbrev sane : Sane j
   sane = call .seated .sane
 
   count-is : events j ≡ n
-  count-is = events-are k cs table ws (call .seated)
+  count-is = events-are k cs table ws gs (call .seated)
 
   on-board : (b : List ℤ) → Agree n (board b) (windows (table-of n table b))
   on-board b y l i = sym (windows-board n table b y i l)
@@ -101,7 +101,7 @@ module _ (k : Job) (cs table ws wide b₀ list : List ℤ) (stop count : ℕ) (c
       }
 
   module _ (b : List ℤ) (i p last : ℕ) (conflict : Bool) (here : At n j list stop count b i p last conflict) where
-    pub ready : Ready k cs table ws wide b
+    pub ready : Ready k cs table ws gs wide b
     ready =
         let few = rw count-is at (sane .few-events) in
         record {

@@ -84,8 +84,8 @@ pub passes : {q : ℕ} {k : Check} → q ≡ 0 → numbered q ≡ k → k ≡ pa
 passes {q} f e = sym e ∙ ap numbered f
 
 -- A slip that passed can be applied.
-pub applies-is : {k : Job} {ws : List ℤ} {j : Call} → Shares k ws j → k .events ≤ 64 → (wide W : Windows) (list : List ℤ) (s : Slip) (left : ℕ) → Stands list s → slip-questions j wide W (explanation-of list s) left ≡ pass → Applies (k .events) s
-applies-is {k} {ws} {j} h few wide W list s left st e =
+pub applies-is : {k : Job} {ws gs : List ℤ} {j : Call} → Shares k ws gs j → k .events ≤ 64 → (wide W : Windows) (list : List ℤ) (s : Slip) (left : ℕ) → Stands list s → slip-questions j wide W (explanation-of list s) left ≡ pass → Applies (k .events) s
+applies-is {k} {ws} {gs} {j} h few wide W list s left st e =
     let p = passed j wide W (explanation-of list s) left e in
     let o = named j (explanation-of list s) (p .named) in
     record { few = few; rule-low = st .rule-low; rule-high = st .rule-high; sign = header-signs j (explanation-of list s) (p .named) .1; event = rw (← h .events-are) (o .target-real) }

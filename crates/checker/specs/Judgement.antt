@@ -40,8 +40,8 @@ closing-reply list t =
     cond (ends-right list (t .after) (t .last)) (done (accepted (t .conflict)) 0 0 0) (refused 19 0)
 
 -- A call whose questions up to 12 passed.
-pub record Passing (h : ℤ) (cs table ws list : List ℤ) : Type 0 where
-  pub asked : questions (call h cs table ws) (length list) ≡ pass
+pub record Passing (h : ℤ) (cs table ws gs list : List ℤ) : Type 0 where
+  pub asked : questions (call h cs table ws gs) (length list) ≡ pass
   pub trailer : marked list ≡ true
 
 -- A list with room for a trailer and a count that is not negative.

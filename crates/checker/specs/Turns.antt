@@ -27,7 +27,7 @@ use Rattle.checker.specs.declared.Step.the-variants.{On, No}
 pub record Applies (n : ℕ) (s : Slip) : Type 0 where
   pub few : n ≤ 64
   pub rule-low : 1 ≤ s .rule
-  pub rule-high : s .rule ≤ 14
+  pub rule-high : s .rule ≤ 18
   pub sign : T (leZ (pos 0) (s .target .0))
   pub event : natAbs (s .target .0) < n
 
@@ -50,9 +50,9 @@ Stepped n j wide list stop p left b b′ (On next c) =
 -- ---- all slips
 
 -- Its questions before 12 passed, its windows are on the board b, and the widest on the wide board.
-pub record Called (k : Job) (cs table ws wide b : List ℤ) : Type 0 where
-  pub seated : Seated k cs table ws
-  pub standing : Standing (call-of k cs table ws) (sent (call-of k cs table ws))
+pub record Called (k : Job) (cs table ws gs wide b : List ℤ) : Type 0 where
+  pub seated : Seated k cs table ws gs
+  pub standing : Standing (call-of k cs table ws gs) (sent (call-of k cs table ws gs))
   pub loaded : Loaded (k .events) table b
   pub opened : Wide (k .events) (k .horizon .0) (board b) wide
 

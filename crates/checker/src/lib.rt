@@ -105,13 +105,14 @@ fn judge_slips(
     cages: &[i32],
     table: &[i32],
     lags: &[i32],
+    sets: &[i32],
     k: Job,
 ) -> Judgement
-    requires { ⌜ Called k (now cages) (now table) (now lags) (now wide) (now b) × Trailed (now list) ⌝ }
+    requires { ⌜ Called k (now cages) (now table) (now lags) (now sets) (now wide) (now b) × Trailed (now list) ⌝ }
     ensures { λ v. ⌜
         Judges
-        (judged (call-of k (now (cages .entry)) (now (table .entry)) (now (lags .entry))) (now (list .entry))
-        (read-all (call-of k (now (cages .entry)) (now (table .entry)) (now (lags .entry))) (now (list .entry))))
+        (judged (call-of k (now (cages .entry)) (now (table .entry)) (now (lags .entry)) (now (sets .entry))) (now (list .entry))
+        (read-all (call-of k (now (cages .entry)) (now (table .entry)) (now (lags .entry)) (now (sets .entry))) (now (list .entry))))
         (left-by v (table-of (k .events) (now (table .entry)) (now (b .exit))) (now (table .entry)))
         v
         ⌝ }
@@ -119,7 +120,7 @@ fn judge_slips(
     let trailer = trailer_of(list);
     let count = index(trailer.slips);
     let stop = list.len() - 3;
-    let read = read_slips(b, wide, list, cages, table, lags, k, stop, count);
+    let read = read_slips(b, wide, list, cages, table, lags, sets, k, stop, count);
     match read {
         SlipsRead::Refused(r) => Judgement::Refused(r),
         SlipsRead::All(tail) => closing(list, tail),
@@ -148,12 +149,19 @@ fn leave(b: &[i32; 256], n: usize, table: &mut [i32], whole: bool)
 }
 
 // 13 to 19 of a call whose questions up to 12 passed. The windows are stored once, at the end, and only if the whole list is accepted.
-fn judge(h: Time, cages: &[i32], table: &mut [i32], lags: &[i32], list: &[i32]) -> Judgement
-    requires { ⌜ Passing (h .0) (now cages) (now table) (now lags) (now list) ⌝ }
+fn judge(
+    h: Time,
+    cages: &[i32],
+    table: &mut [i32],
+    lags: &[i32],
+    sets: &[i32],
+    list: &[i32],
+) -> Judgement
+    requires { ⌜ Passing (h .0) (now cages) (now table) (now lags) (now sets) (now list) ⌝ }
     ensures { λ v. ⌜
         Judges
-        (judged (call (h .0) (now (cages .entry)) (now (table .entry)) (now (lags .entry))) (now (list .entry))
-        (read-all (call (h .0) (now (cages .entry)) (now (table .entry)) (now (lags .entry))) (now (list .entry))))
+        (judged (call (h .0) (now (cages .entry)) (now (table .entry)) (now (lags .entry)) (now (sets .entry))) (now (list .entry))
+        (read-all (call (h .0) (now (cages .entry)) (now (table .entry)) (now (lags .entry)) (now (sets .entry))) (now (list .entry))))
         (now (table .exit))
         v
         ⌝ }
@@ -169,17 +177,24 @@ fn judge(h: Time, cages: &[i32], table: &mut [i32], lags: &[i32], list: &[i32]) 
     load(table, n, &mut b);
     let mut wide = [0i32; 256];
     widen(&b, k, &mut wide);
-    let v = judge_slips(&mut b, &wide, list, cages, table, lags, k);
+    let v = judge_slips(&mut b, &wide, list, cages, table, lags, sets, k);
     let whole = accepts(v);
     leave(&b, n, table, whole);
     v
 }
 
 // The whole call.
-fn read_list(h: Time, cages: &[i32], table: &mut [i32], lags: &[i32], list: &[i32]) -> Judgement
-    ensures { λ v. ⌜ Judges (check (call (h .0) (now (cages .entry)) (now (table .entry)) (now (lags .entry))) (now (list .entry))) (now (table .exit)) v ⌝ }
+fn read_list(
+    h: Time,
+    cages: &[i32],
+    table: &mut [i32],
+    lags: &[i32],
+    sets: &[i32],
+    list: &[i32],
+) -> Judgement
+    ensures { λ v. ⌜ Judges (check (call (h .0) (now (cages .entry)) (now (table .entry)) (now (lags .entry)) (now (sets .entry))) (now (list .entry))) (now (table .exit)) v ⌝ }
 {
-    let asked = questions(h, cages, table, lags, list.len());
+    let asked = questions(h, cages, table, lags, sets, list.len());
     match asked {
         Check::Refuse(r) => Judgement::Refused(r),
         Check::Pass => {
@@ -189,16 +204,23 @@ fn read_list(h: Time, cages: &[i32], table: &mut [i32], lags: &[i32], list: &[i3
                     place: 0,
                 });
             }
-            judge(h, cages, table, lags, list)
+            judge(h, cages, table, lags, sets, list)
         }
     }
 }
 
 // The slip reader: whatever words the list holds, it is accepted, the windows narrowed, or refused by number and place, no word changed.
 // It rules out a reader that accepts every list (accepts_every_list) and one that leaves a narrowed window behind (narrowed_window_left).
-pub fn check(h: i32, cages: &[i32], table: &mut [i32], lags: &[i32], list: &[i32]) -> Judgement
-    ensures answer { λ v. ⌜ reply-of v ≡ check (call h (now (cages .entry)) (now (table .entry)) (now (lags .entry))) (now (list .entry)) .reply ⌝ }
-    ensures windows { λ v. ⌜ now (table .exit) ≡ check (call h (now (cages .entry)) (now (table .entry)) (now (lags .entry))) (now (list .entry)) .table ⌝ }
+pub fn check(
+    h: i32,
+    cages: &[i32],
+    table: &mut [i32],
+    lags: &[i32],
+    sets: &[i32],
+    list: &[i32],
+) -> Judgement
+    ensures answer { λ v. ⌜ reply-of v ≡ check (call h (now (cages .entry)) (now (table .entry)) (now (lags .entry)) (now (sets .entry))) (now (list .entry)) .reply ⌝ }
+    ensures windows { λ v. ⌜ now (table .exit) ≡ check (call h (now (cages .entry)) (now (table .entry)) (now (lags .entry)) (now (sets .entry))) (now (list .entry)) .table ⌝ }
 {
-    read_list(Time(h), cages, table, lags, list)
+    read_list(Time(h), cages, table, lags, sets, list)
 }

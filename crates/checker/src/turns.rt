@@ -51,14 +51,15 @@ fn take_slip(
     cages: &[i32],
     table: &[i32],
     lags: &[i32],
+    sets: &[i32],
     k: Job,
     stop: usize,
     p: usize,
     left: usize,
 ) -> Step
-    requires { do ⌜ (Ready k (now cages) (now table) (now lags) (now wide) (now b)) × (Whole (now b)) × (p ≤ stop) × (stop ≤ (← ⟦list.len()⟧)) ⌝ }
+    requires { do ⌜ (Ready k (now cages) (now table) (now lags) (now sets) (now wide) (now b)) × (Whole (now b)) × (p ≤ stop) × (stop ≤ (← ⟦list.len()⟧)) ⌝ }
     ensures { λ r. ⌜
-        Stepped (k .events) (call-of k (now (cages .entry)) (now (table .entry)) (now (lags .entry)))
+        Stepped (k .events) (call-of k (now (cages .entry)) (now (table .entry)) (now (lags .entry)) (now (sets .entry)))
         (board (now (wide .entry))) (now (list .entry)) stop p left (now (b .entry)) (now (b .exit)) r
         ⌝ }
 {
@@ -66,7 +67,7 @@ fn take_slip(
     let SlipRead::Whole(slip, next) = read else {
         return Step::No(13);
     };
-    let number = slip_questions(b, wide, list, cages, table, lags, k, slip, left);
+    let number = slip_questions(b, wide, list, cages, table, lags, sets, k, slip, left);
     if number != 0 {
         return Step::No(number);
     }
@@ -82,15 +83,16 @@ pub fn read_slips(
     cages: &[i32],
     table: &[i32],
     lags: &[i32],
+    sets: &[i32],
     k: Job,
     stop: usize,
     count: usize,
 ) -> SlipsRead
-    requires { do ⌜ (Called k (now cages) (now table) (now lags) (now wide) (now b)) × (stop ≤ (← ⟦list.len()⟧)) ⌝ }
+    requires { do ⌜ (Called k (now cages) (now table) (now lags) (now sets) (now wide) (now b)) × (stop ≤ (← ⟦list.len()⟧)) ⌝ }
     ensures { λ r. ⌜
         Ends (k .events) (now (table .entry))
-        (read-from (call-of k (now (cages .entry)) (now (table .entry)) (now (lags .entry)))
-        (widest (call-of k (now (cages .entry)) (now (table .entry)) (now (lags .entry))))
+        (read-from (call-of k (now (cages .entry)) (now (table .entry)) (now (lags .entry)) (now (sets .entry)))
+        (widest (call-of k (now (cages .entry)) (now (table .entry)) (now (lags .entry)) (now (sets .entry))))
         (now (list .entry)) stop count 0 0 0 false (now (table .entry)))
         (now (b .exit)) stop r
         ⌝ }
@@ -100,7 +102,19 @@ pub fn read_slips(
     let mut last: usize = 0;
     let mut conflict = false;
     while i < count {
-        let step = take_slip(b, wide, list, cages, table, lags, k, stop, p, count - i - 1);
+        let step = take_slip(
+            b,
+            wide,
+            list,
+            cages,
+            table,
+            lags,
+            sets,
+            k,
+            stop,
+            p,
+            count - i - 1,
+        );
         match step {
             Step::No(number) => {
                 return SlipsRead::Refused(Refusal {

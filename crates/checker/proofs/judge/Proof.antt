@@ -13,19 +13,19 @@ use Rattle.checker.proofs.judge.Tie as tie
 cage-at-requires : tie.Need-cage-at-requires
 cage-at-requires c κs =
     let a = c .args in
-    omega (arith, some-cage (a .h .0) (a .cages .now) (a .table .now) (a .lags .now) (a .list .now) (c .pre))
+    omega (arith, some-cage (a .h .0) (a .cages .now) (a .table .now) (a .lags .now) (a .sets .now) (a .list .now) (c .pre))
 
 load-requires : tie.Need-load-requires
 load-requires c κs =
     let s = c .before .before .before in
     let a = s .args in
-    (few (a .h .0) (a .cages .now) (a .table .now) (a .lags .now) (a .list .now) (s .pre), whole-events (a .h .0) (a .cages .now) (a .table .now) (a .lags .now) (a .list .now) (s .pre), refl)
+    (few (a .h .0) (a .cages .now) (a .table .now) (a .lags .now) (a .sets .now) (a .list .now) (s .pre), whole-events (a .h .0) (a .cages .now) (a .table .now) (a .lags .now) (a .sets .now) (a .list .now) (s .pre), refl)
 
 widen-requires : tie.Need-widen-requires
 widen-requires c κs =
     let s = c .before .before .before .before .before .before in
     let a = s .args in
-    (few (a .h .0) (a .cages .now) (a .table .now) (a .lags .now) (a .list .now) (s .pre), refl)
+    (few (a .h .0) (a .cages .now) (a .table .now) (a .lags .now) (a .sets .now) (a .list .now) (s .pre), refl)
 
 judge-slips-requires : tie.Need-judge-slips-requires
 judge-slips-requires c κs =
@@ -34,7 +34,7 @@ judge-slips-requires c κs =
     let r = l .before .before .before in
     let s = r .before in
     let a = s .args in
-    (called (a .h .0) (a .cages .now) (a .table .now) (a .lags .now) (a .list .now) (s .pre) _ (l .load .last .1 .1 .0) (w .widen .last .1 .1 .0) refl (r .cage-at .ensures) refl (l .load .ensures) (w .widen .ensures), trailer-right (a .h .0) (a .cages .now) (a .table .now) (a .lags .now) (a .list .now) (s .pre))
+    (called (a .h .0) (a .cages .now) (a .table .now) (a .lags .now) (a .sets .now) (a .list .now) (s .pre) _ (l .load .last .1 .1 .0) (w .widen .last .1 .1 .0) refl (r .cage-at .ensures) refl (l .load .ensures) (w .widen .ensures), trailer-right (a .h .0) (a .cages .now) (a .table .now) (a .lags .now) (a .sets .now) (a .list .now) (s .pre))
 
 accepts-requires : tie.Need-accepts-requires
 accepts-requires c κs = search needs
@@ -43,7 +43,7 @@ leave-requires : tie.Need-leave-requires
 leave-requires c κs =
     let s = c .before .before .before .before .before .before .before .before .before .before .before .before .before .before in
     let a = s .args in
-    (few (a .h .0) (a .cages .now) (a .table .now) (a .lags .now) (a .list .now) (s .pre), whole-events (a .h .0) (a .cages .now) (a .table .now) (a .lags .now) (a .list .now) (s .pre))
+    (few (a .h .0) (a .cages .now) (a .table .now) (a .lags .now) (a .sets .now) (a .list .now) (s .pre), whole-events (a .h .0) (a .cages .now) (a .table .now) (a .lags .now) (a .sets .now) (a .list .now) (s .pre))
 
 same-length : tie.Need-same-length
 same-length c = search needs
@@ -53,7 +53,7 @@ returns c =
     let d = c .before .before .before .before in
     let g = d .before in
     let a = g .before .before .before .before .before .before .before .before .before .before .before .args in
-    stored (call (a .h .0) (a .cages .now) (a .table .now) (a .lags .now)) (a .list .now) (table-of (length (a .table .now) / 5) (a .table .now) (g .judge-slips .last .0)) (g .judge-slips .result) (d .accepts .ensures) (c .before .leave .ensures) (g .judge-slips .ensures)
+    stored (call (a .h .0) (a .cages .now) (a .table .now) (a .lags .now) (a .sets .now)) (a .list .now) (table-of (length (a .table .now) / 5) (a .table .now) (g .judge-slips .last .0)) (g .judge-slips .result) (d .accepts .ensures) (c .before .leave .ensures) (g .judge-slips .ensures)
 
 pub judge-spec : {M : Type 1} → statement M
 judge-spec =

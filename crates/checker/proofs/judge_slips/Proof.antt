@@ -26,18 +26,18 @@ enum-known-read-2 c = search needs
 closing-requires : tie.Need-closing-requires
 closing-requires c κs =
     let a = c .before .before .before .before .before .before .before .args in
-    let l = last-in (a .k) (a .cages .now) (a .table .now) (a .lags .now) (a .list .now) (c .before .before .before .read-slips .last .0) (rw (c .before .before .before .before .before .index .ensures, c .before .before .before .before .before .before .trailer-of .ensures .slips-are) at (c .before .before .before .read-slips .ensures)) (c .before .read2 .given .0 .0) (c .before .read2 .given .1) in
+    let l = last-in (a .k) (a .cages .now) (a .table .now) (a .lags .now) (a .sets .now) (a .list .now) (c .before .before .before .read-slips .last .0) (rw (c .before .before .before .before .before .index .ensures, c .before .before .before .before .before .before .trailer-of .ensures .slips-are) at (c .before .before .before .read-slips .ensures)) (c .before .read2 .given .0 .0) (c .before .read2 .given .1) in
     (c .before .before .before .before .before .before .before .pre .1 .room, omega (arith, l, c .before .before .before .before .before .before .before .pre .1 .short))
 
 returns : tie.Need-returns
 returns c =
     let a = c .before .before .before .before .before .before .before .args in
-    judges-cut (a .k) (a .cages .now) (a .table .now) (a .lags .now) (a .list .now) (c .before .before .before .read-slips .last .0) (rw (c .before .before .before .before .before .index .ensures, c .before .before .before .before .before .before .trailer-of .ensures .slips-are) at (c .before .before .before .read-slips .ensures)) (c .before .read .given .0 .0) (c .before .read .given .1)
+    judges-cut (a .k) (a .cages .now) (a .table .now) (a .lags .now) (a .sets .now) (a .list .now) (c .before .before .before .read-slips .last .0) (rw (c .before .before .before .before .before .index .ensures, c .before .before .before .before .before .before .trailer-of .ensures .slips-are) at (c .before .before .before .read-slips .ensures)) (c .before .read .given .0 .0) (c .before .read .given .1)
 
 returns-2 : tie.Need-returns-2
 returns-2 c =
     let a = c .before .before .before .before .before .before .before .before .args in
-    judges-all (a .k) (a .cages .now) (a .table .now) (a .lags .now) (a .list .now) (c .before .before .before .before .read-slips .last .0) (rw (c .before .before .before .before .before .before .index .ensures, c .before .before .before .before .before .before .before .trailer-of .ensures .slips-are) at (c .before .before .before .before .read-slips .ensures)) (c .before .before .read2 .given .0 .0) (c .before .before .read2 .given .1) (c .closing .ensures)
+    judges-all (a .k) (a .cages .now) (a .table .now) (a .lags .now) (a .sets .now) (a .list .now) (c .before .before .before .before .read-slips .last .0) (rw (c .before .before .before .before .before .before .index .ensures, c .before .before .before .before .before .before .before .trailer-of .ensures .slips-are) at (c .before .before .before .before .read-slips .ensures)) (c .before .before .read2 .given .0 .0) (c .before .before .read2 .given .1) (c .closing .ensures)
 
 pub judge-slips-spec : {M : Type 1} → statement M
 judge-slips-spec =
