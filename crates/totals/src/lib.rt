@@ -39,12 +39,12 @@ pub fn is_member(sets: &[i32], at: usize, count: usize, y: usize) -> bool
     requires { ⌜ Listed (now sets) at × (count ≡ count-at (now sets) at) ⌝ }
     ensures { λ r. ⌜ r ≡ any (count-at (now (sets .entry)) at) (λ i. eqb (event-at (now (sets .entry)) at i) y) ⌝ }
 {
-    let mut i: usize = 0;
-    while i < count {
-        if member(sets, at, i) == y {
+    let mut k: usize = 0;
+    while k < count {
+        if member(sets, at, k) == y {
             return true;
         }
-        i += 1;
+        k += 1;
     }
     false
 }

@@ -25,7 +25,7 @@ member-requires c κs =
     let p = c .before .before .pre in
     let l = c .before .loop in
     let s = c .loop-test .taken in
-    (omega (arith, p .0 .inside), p .0 .sign (l .i) (omega arith))
+    (omega (arith, p .0 .inside), p .0 .sign (l .k) (omega arith))
 
 returns : tie.Need-returns Inv-loop μ-loop
 returns c =
@@ -33,10 +33,10 @@ returns c =
     let a = s .args in
     let l = c .before .before .before .loop in
     let n = count-at (a .sets .now) (a .at) in
-    any-found n (l .i) (event-at (a .sets .now) (a .at)) (omega (arith, s .pre .1, c .before .before .loop-test .taken)) (c .before .member .ensures) (c .if1 .taken)
+    any-found n (l .k) (event-at (a .sets .now) (a .at)) (omega (arith, s .pre .1, c .before .before .loop-test .taken)) (c .before .member .ensures) (c .if1 .taken)
 
-add-i : tie.Need-add-i Inv-loop μ-loop
-add-i c = omega arith
+add-k : tie.Need-add-k Inv-loop μ-loop
+add-k c = omega arith
 
 loop-less : tie.Need-loop-less Inv-loop μ-loop
 loop-less c = omega arith
@@ -45,14 +45,14 @@ loop-again : tie.Need-loop-again Inv-loop μ-loop
 loop-again c =
     let a = c .before .before .before .before .args in
     let l = c .before .before .before .loop in
-    (omega arith, any-not (l .i) (event-at (a .sets .now) (a .at)) (l .inv .1) (c .before .member .ensures) (c .if1 .left))
+    (omega arith, any-not (l .k) (event-at (a .sets .now) (a .at)) (l .inv .1) (c .before .member .ensures) (c .if1 .left))
 
 returns-2 : tie.Need-returns-2 Inv-loop μ-loop
 returns-2 c =
     let s = c .before .before in
     let a = s .args in
     let l = c .before .loop in
-    let e : l .i ≡ count-at (a .sets .now) (a .at) = omega (arith, l .inv .0, s .pre .1, c .loop-test .left) in
+    let e : l .k ≡ count-at (a .sets .now) (a .at) = omega (arith, l .inv .0, s .pre .1, c .loop-test .left) in
     sym (rw e at (l .inv .1))
 
 pub is-member-spec : {M : Type 1} → statement M
@@ -64,7 +64,7 @@ is-member-spec =
     loop-holds
     member-requires
     returns
-    add-i
+    add-k
     loop-less
     loop-again
     returns-2)
