@@ -6,7 +6,7 @@ use crate::explanation::{
     PREMISE_WORDS, TRAILER_WORDS,
 };
 use crate::job::{index_below, store_windows, Job, Refusal, Settings, Window};
-use crate::rules::{outcome, Candidate, Outcome, Rule};
+use crate::rules::{outcome, Candidate, Outcome, Rule, Subject};
 
 /// The checker's answer.
 #[derive(Clone, Copy, Debug, PartialEq, Eq)]
@@ -174,10 +174,10 @@ impl<'a> Check<'a> {
     /// Question 14: do all numbers name something that fits the rule?
     fn names<'r>(&self, raw: &Raw<'r>) -> Option<Checked<'r>> {
         let events = self.standing.len();
-        let subjects = if raw.rule.concerns_lag() {
-            self.job.lags.len()
-        } else {
-            events
+        let subjects = match raw.rule.subject() {
+            Subject::Lag => self.job.lags.len(),
+            Subject::Event => events,
+            Subject::Set => self.job.sets.len(),
         };
         let subject = index_below(raw.subject, subjects)?;
         let target = index_below(raw.target, events)?;
@@ -197,13 +197,15 @@ impl<'a> Check<'a> {
         })
     }
 
-    /// Does the target fit the rule: a, b, or e; any event in 5, 8, 11, 14?
+    /// Does the target fit the rule: a, b, or e; any event in 5, 8, 11, 14; a
+    /// member in 17, 18?
     fn target_fits(&self, rule: Rule, subject: usize, target: usize) -> bool {
         match rule {
             Rule::LagLatest => target == self.job.lags[subject].a,
             Rule::LagEarliest => target == self.job.lags[subject].b,
             Rule::Level(_) | Rule::Wait(_) => target == subject,
             Rule::Share(_) => true,
+            Rule::LeastTotal | Rule::MostTotal => self.job.sets[subject].members.contains(&target),
         }
     }
 

@@ -13,11 +13,13 @@ use crate::raw_job::RawJob;
 use crate::stream::{Call, Record, RecordReader, HEADER_WORDS};
 
 /// One more than the greatest number of a question.
-const QUESTIONS: usize = 31;
+const QUESTIONS: usize = 34;
 /// The numbers of the questions of document 01 and of those added since.
-const ASKED: [std::ops::RangeInclusive<usize>; 3] = [1..=19, 22..=22, 29..=30];
+const ASKED: [std::ops::RangeInclusive<usize>; 3] = [1..=19, 22..=22, 29..=33];
 /// One more than the greatest number of a rule.
-const RULES: usize = 15;
+const RULES: usize = 19;
+/// The numbers of the rules.
+const RULE_NUMBERS: [std::ops::RangeInclusive<usize>; 2] = [1..=14, 17..=18];
 
 /// Explanations by rule number.
 #[derive(Clone, Copy, Default)]
@@ -37,11 +39,11 @@ impl RuleCounts {
 }
 
 /// Counts the explanations of an accepted list by the cover of the cage they
-/// speak of; those of rules 1 and 2 by the first cage's.
+/// speak of; those of rules 1, 2, 17 and 18 by the first cage's.
 fn add_list(rules: &mut [RuleCounts; 2], job: &RawJob, list: &[i32]) {
     for slip in decode(list) {
         let cage = match slip.rule {
-            1 | 2 => 0,
+            1 | 2 | 17 | 18 => 0,
             _ => job.window(slip.subject as usize)[4] as usize,
         };
         let cover = job.cages[cage * CAGE_WORDS + 3];
@@ -186,7 +188,7 @@ impl Counts {
                 "cover {cover}: rule  plan narrow  conflict  read narrow  conflict"
             )?;
             let (plan, read) = (&self.plan_rules[cover], &self.read_rules[cover]);
-            for rule in 1..RULES {
+            for rule in RULE_NUMBERS.into_iter().flatten() {
                 writeln!(
                     out,
                     "{rule:>13} {:>12} {:>9} {:>12} {:>9}",

@@ -36,6 +36,7 @@ pub fn premises(job: &Job, windows: &[Window], finding: &Finding, out: &mut Vec<
             wait_premises(&View::new(job, family, e), windows, e, bound, out)
         }
         (Rule::Wait(_), None) => {}
+        (Rule::LeastTotal | Rule::MostTotal, _) => total_premises(job, windows, finding, out),
     }
     // A bound that passes the opposite end quotes that end too.
     if let (true, Some(end)) = (finding.conflict, finding.rule.end()) {
@@ -126,6 +127,20 @@ fn wait_premises(view: &View, windows: &[Window], e: usize, bound: i64, out: &mu
     }
     push_own_amount(view, windows, e, out);
     push_own_times(windows, e, quotes_earliest, false, out);
+}
+
+/// Premises of rules 17 and 18: the ends used of the other members, neutral ones
+/// left out.
+fn total_premises(job: &Job, windows: &[Window], finding: &Finding, out: &mut Vec<Premise>) {
+    let end = match finding.rule {
+        Rule::LeastTotal => End::Largest,
+        _ => End::Smallest,
+    };
+    for &y in &job.sets[finding.subject].members {
+        if y != finding.target && !windows[y].is_neutral() {
+            push_end(windows, y, end, out);
+        }
+    }
 }
 
 /// e's own minute, where another event's premise was measured against it.

@@ -1,9 +1,10 @@
-//! Faults put into a sound job, so that each refusal 1 to 11, 22, 29
-//! and 30 is reached.
+//! Faults put into a sound job, so that each refusal 1 to 11, 22
+//! and 29 to 33 is reached.
 
 use crate::job::{CAGE_WORDS, EVENT_WORDS, LAG_WORDS, MAX_CAGES, MAX_EVENTS, MAX_LAGS};
-use crate::raw_job::{RawJob, MOST_CAGE_WORDS, MOST_LAG_WORDS, MOST_WINDOW_WORDS};
+use crate::raw_job::{RawJob, MOST_CAGE_WORDS, MOST_LAG_WORDS, MOST_SET_WORDS, MOST_WINDOW_WORDS};
 use crate::rng::Rng;
+use crate::sets::{MAX_SETS, SET_HEAD_WORDS};
 
 /// Puts one to three faults into a job. The last of them may be a number in
 /// the middle of a table, so the place differs from 0 often.
@@ -11,7 +12,8 @@ pub fn make_faulty(rng: &mut Rng, job: &mut RawJob, room: &mut usize) {
     let faults = rng.pick(&[1, 1, 1, 2, 2, 3]);
     // Questions 5, 6 and 8 to 10 hide behind the others: they come more often.
     let mix = [
-        1, 29, 2, 3, 22, 4, 5, 5, 6, 6, 30, 30, 7, 8, 8, 9, 9, 10, 10, 11, 0,
+        1, 29, 2, 3, 22, 4, 5, 5, 6, 6, 30, 30, 7, 8, 8, 9, 9, 10, 10, 31, 31, 32, 32, 32, 33, 33,
+        33, 11, 0,
     ];
     for _ in 0..faults {
         let question = rng.pick(&mix);
@@ -43,6 +45,8 @@ fn one_fault(rng: &mut Rng, job: &mut RawJob, room: &mut usize, question: usize)
             (MAX_CAGES, MOST_CAGE_WORDS),
         ),
         30 => spoil_home(rng, job),
+        31 => cut_sets(rng, job),
+        32 | 33 => spoil_set(rng, job, question),
         _ => wild_anywhere(rng, job),
     }
 }
@@ -66,6 +70,94 @@ fn spoil_home(rng: &mut Rng, job: &mut RawJob) {
     if let Some(window) = random_entry(rng, &mut job.windows, EVENT_WORDS) {
         window[4] = rng.pick(&[-1, cages, cages + 1, 8, i32::MIN, i32::MAX]);
     }
+}
+
+/// Question 31's fault: a set cut short, or too many.
+fn cut_sets(rng: &mut Rng, job: &mut RawJob) {
+    match rng.below(5) {
+        0 | 1 if !job.sets.is_empty() => {
+            let less = 1 + rng.below(job.sets.len().min(4));
+            job.sets.truncate(job.sets.len() - less);
+        }
+        2 => {
+            let words = [0, 5, 7, 0, 1, 2];
+            job.sets.extend(&words[..1 + rng.below(6)]);
+        }
+        3 => {
+            // One set too many, whole or cut short.
+            job.sets.clear();
+            for _ in 0..MAX_SETS + 1 + rng.below(2) {
+                job.sets.extend([-1, 1, 1, 0]);
+            }
+            job.sets.truncate(job.sets.len() - rng.below(4));
+        }
+        _ => {
+            let places = set_places(&job.sets);
+            if let Some(place) = places.get(rng.below(places.len())) {
+                let beyond = job.sets.len() as i32;
+                job.sets[place + 2] = rng.pick(&[beyond, 65, i32::MAX]);
+            }
+        }
+    }
+    job.sets.truncate(MOST_SET_WORDS);
+}
+
+/// The fault of question 32 or 33 at a random set; there may be none yet.
+fn spoil_set(rng: &mut Rng, job: &mut RawJob, question: usize) {
+    let events = job.events() as i32;
+    if job.sets.is_empty() {
+        for _ in 0..1 + rng.below(3) {
+            job.sets.extend([-5, 5, 1, 0]);
+        }
+    }
+    let places = set_places(&job.sets);
+    let number = rng.below(places.len());
+    let Some(at) = places.get(number).copied() else {
+        return;
+    };
+    let end = places.get(number + 1).copied().unwrap_or(job.sets.len());
+    match (question, rng.below(5)) {
+        (32, 0) => {
+            // No members, or a count that is read as none.
+            job.sets.drain(at + SET_HEAD_WORDS..end);
+            job.sets[at + 2] = rng.pick(&[0, 0, -1, i32::MIN]);
+        }
+        (32, 1 | 2) => {
+            // A member twice.
+            let member = job.sets[at + SET_HEAD_WORDS + rng.below(end - at - SET_HEAD_WORDS)];
+            job.sets.insert(end, member);
+            job.sets[at + 2] += 1;
+        }
+        (32, _) => {
+            let place = at + SET_HEAD_WORDS + rng.below(end - at - SET_HEAD_WORDS);
+            job.sets[place] = rng.pick(&[-1, events, events + 3, i32::MIN, i32::MAX]);
+        }
+        (_, 0 | 1) => {
+            let total = rng.below(2);
+            let words = [-639_937, 639_937, i32::MIN, i32::MAX];
+            job.sets[at + total] = rng.pick(&words);
+        }
+        _ => job.sets[at] = job.sets[at + 1].saturating_add(1),
+    }
+    job.sets.truncate(MOST_SET_WORDS);
+}
+
+/// Where the sets of a table begin that have a member; a damaged rest is left
+/// out.
+fn set_places(sets: &[i32]) -> Vec<usize> {
+    let mut places = Vec::new();
+    let mut at = 0;
+    while let Some(head) = sets.get(at..at + SET_HEAD_WORDS) {
+        let next = at + SET_HEAD_WORDS + usize::try_from(head[2]).unwrap_or(0);
+        if next > sets.len() {
+            break;
+        }
+        if head[2] > 0 {
+            places.push(at);
+        }
+        at = next;
+    }
+    places
 }
 
 /// A table that is not whole entries, or has one entry too many.
@@ -155,7 +247,12 @@ fn wild_anywhere(rng: &mut Rng, job: &mut RawJob) {
         job.horizon = word;
         return;
     }
-    let tables = [&mut job.cages, &mut job.windows, &mut job.lags];
+    let tables = [
+        &mut job.cages,
+        &mut job.windows,
+        &mut job.lags,
+        &mut job.sets,
+    ];
     let kind = rng.below(tables.len());
     for (number, table) in tables.into_iter().enumerate() {
         if number == kind && !table.is_empty() {

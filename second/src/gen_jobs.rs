@@ -1,12 +1,19 @@
 //! Random sound jobs for the stream: parts of one cage each, joined.
 
 use crate::gen_parts::{at_odds, small_part, some_part, Part, PART_EVENT_WORDS};
+use crate::gen_sets::add_sets;
 use crate::job::{AMOUNT_BOUND, LAG_BOUND, LAG_WORDS, MAX_CAGES, MAX_EVENTS, MAX_LAGS};
 use crate::raw_job::RawJob;
 use crate::rng::Rng;
 
-/// A sound job: one cage or several.
+/// A sound job: one cage or several, with or without sets.
 pub fn sound_job(rng: &mut Rng) -> RawJob {
+    let mut job = job_of_cages(rng);
+    add_sets(rng, &mut job);
+    job
+}
+
+fn job_of_cages(rng: &mut Rng) -> RawJob {
     if rng.chance(1, 2) {
         let part = some_part(rng);
         return joined(rng, vec![part]);
@@ -76,6 +83,7 @@ fn joined(rng: &mut Rng, parts: Vec<Part>) -> RawJob {
         cages: Vec::new(),
         windows: Vec::new(),
         lags: Vec::new(),
+        sets: Vec::new(),
         amount_bound: AMOUNT_BOUND,
     };
     // The events of a part keep their order.

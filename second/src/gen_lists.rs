@@ -12,7 +12,7 @@ use crate::gen_plans::cut_room;
 use crate::job::{Job, Window, EVENT_WORDS, LAG_WORDS};
 use crate::raw_job::{slip_places, tally_of, RawJob, MOST_BUFFER_WORDS};
 use crate::rng::Rng;
-use crate::rules::{outcome, Outcome, Rule};
+use crate::rules::{outcome, Outcome, Rule, Subject};
 use crate::stream::{Call, Record};
 
 /// An explanation (slip) as plain words, sound or not.
@@ -114,9 +114,14 @@ pub fn rival_list(rng: &mut Rng, job: &Job) -> Vec<LooseSlip> {
     slips
 }
 
+/// The number of some rule.
+fn some_rule(rng: &mut Rng) -> i32 {
+    rng.pick(&[1, 2, 3, 4, 5, 6, 7, 8, 9, 10, 11, 12, 13, 14, 17, 18])
+}
+
 /// A random rule on random events; the slip it gives, if any.
 fn rival_slip(rng: &mut Rng, job: &Job, windows: &[Window]) -> Option<LooseSlip> {
-    let rule = Rule::from_number(rng.within(1, 14) as i32)?;
+    let rule = Rule::from_number(some_rule(rng))?;
     let (subject, target) = random_places(rng, job, rule)?;
     let given = outcome(job, windows, rule, subject, target, &mut Vec::new());
     let (bound, conflict) = match (given, rule.end()) {
@@ -138,7 +143,7 @@ fn rival_slip(rng: &mut Rng, job: &Job, windows: &[Window]) -> Option<LooseSlip>
 
 /// A subject and a target that fit a rule.
 fn random_places(rng: &mut Rng, job: &Job, rule: Rule) -> Option<(usize, usize)> {
-    if rule.concerns_lag() {
+    if rule.subject() == Subject::Lag {
         let subject = rng.below(job.lags.len());
         let lag = job.lags.get(subject)?;
         let target = if rule == Rule::LagLatest {
@@ -147,6 +152,11 @@ fn random_places(rng: &mut Rng, job: &Job, rule: Rule) -> Option<(usize, usize)>
             lag.b
         };
         return Some((subject, target));
+    }
+    if rule.subject() == Subject::Set {
+        let subject = rng.below(job.sets.len());
+        let set = job.sets.get(subject)?;
+        return Some((subject, rng.pick(&set.members)));
     }
     if job.windows.is_empty() {
         return None;
@@ -258,7 +268,7 @@ fn edit_head(rng: &mut Rng, raw: &RawJob, slip: &mut LooseSlip) {
         5 => slip.subject = rng.within(0, events - 1) as i32,
         6 => slip.target = rng.pick(&[-1, events as i32, i32::MIN, i32::MAX]),
         7 => slip.subject = rng.pick(&[-1, events as i32, i32::MIN, i32::MAX]),
-        8 => slip.rule = rng.within(1, 14) as i32,
+        8 => slip.rule = some_rule(rng),
         9 => {
             slip.kind = CONFLICT_KIND;
             slip.value = 0;
@@ -295,12 +305,15 @@ fn conflict_as_share(rng: &mut Rng, raw: &RawJob, slip: &mut LooseSlip) {
     }
 }
 
-/// The same rule of another family: 4 becomes 7, 10 or 13, and so on.
+/// The same rule of another family: 4 becomes 7, 10 or 13, and so on; 1 and 2,
+/// 17 and 18 change places.
 fn sibling_rule(rng: &mut Rng, slip: &mut LooseSlip) {
     if (3..=14).contains(&slip.rule) {
         slip.rule = 3 + (slip.rule - 3) % 3 + 3 * rng.within(0, 3) as i32;
-    } else {
+    } else if slip.rule <= 2 {
         slip.rule = 3 - slip.rule;
+    } else {
+        slip.rule = 35 - slip.rule;
     }
 }
 
@@ -373,7 +386,7 @@ fn random_premise(rng: &mut Rng, raw: &RawJob) -> [i32; PREMISE_WORDS] {
 /// A made-up slip, mostly one whose numbers fit together.
 fn random_slip(rng: &mut Rng, raw: &RawJob) -> LooseSlip {
     let events = raw.events() as i64;
-    let number = rng.within(1, 14) as i32;
+    let number = some_rule(rng);
     let subject = rng.within(0, events - 1) as i32;
     let target = match number {
         1 | 2 => lag_event(raw, subject, number as usize - 1),

@@ -3,6 +3,7 @@
 use crate::explanation::TRAILER_WORDS;
 use crate::gen_faults::make_faulty;
 use crate::gen_jobs::{creeping_job, sound_job};
+use crate::propagator::PlanAnswer;
 use crate::raw_job::{slip_places, tally_of, RawJob, MOST_BUFFER_WORDS};
 use crate::rng::Rng;
 use crate::stream::{Call, Record};
@@ -21,8 +22,8 @@ pub fn plan_record(rng: &mut Rng) -> Record {
     }
 }
 
-/// A sound job and a buffer length for it; jobs on which no rule fires are
-/// kept in one case of three.
+/// A sound job and a buffer length for it; jobs on which no rule fires, and
+/// those in conflict, are kept in one case of three.
 fn job_and_room(rng: &mut Rng) -> (RawJob, usize) {
     loop {
         let job = match rng.below(400) {
@@ -31,7 +32,8 @@ fn job_and_room(rng: &mut Rng) -> (RawJob, usize) {
         };
         let (answer, buffer) = job.planned(MOST_BUFFER_WORDS);
         let length = tally_of(answer).map_or(TRAILER_WORDS, |tally| tally.length);
-        if length > TRAILER_WORDS || rng.chance(1, 3) {
+        let conflict = matches!(answer, PlanAnswer::Conflict(_));
+        if length > TRAILER_WORDS && !conflict || rng.chance(1, 3) {
             let room = plan_room(rng, &buffer[..length]);
             return (job, room);
         }

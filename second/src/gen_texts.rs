@@ -10,6 +10,7 @@ use crate::gen_jobs::{creeping_job, sound_job};
 use crate::job::{CAGE_WORDS, EVENT_WORDS, LAG_WORDS};
 use crate::raw_job::RawJob;
 use crate::rng::Rng;
+use crate::sets::SET_HEAD_WORDS;
 use crate::text::answer_text;
 
 /// Writes texts 0, 1, .. into a folder, one a file, and to `out` what the text
@@ -55,7 +56,7 @@ pub fn random_text(rng: &mut Rng) -> Vec<u8> {
 const CAGE_COUNT: usize = 1;
 
 /// The numbers of a job's text: H, the number of cages and their words, n, m,
-/// the events, the lags.
+/// the events, the lags, the number of sets and their words.
 fn job_numbers(rng: &mut Rng) -> Vec<i64> {
     let job = random_job(rng);
     let counts = [
@@ -68,8 +69,22 @@ fn job_numbers(rng: &mut Rng) -> Vec<i64> {
         .chain(&counts)
         .chain(&job.windows)
         .chain(&job.lags)
+        .chain(&[set_count(&job.sets)])
+        .chain(&job.sets)
         .map(|word| i64::from(*word))
         .collect()
+}
+
+/// How many sets a table holds, one cut short at its end counted too.
+fn set_count(mut words: &[i32]) -> i32 {
+    let mut count = 0;
+    while !words.is_empty() {
+        let members = words.get(SET_HEAD_WORDS - 1).copied().unwrap_or(0);
+        let length = SET_HEAD_WORDS + usize::try_from(members).unwrap_or(0);
+        words = words.get(length..).unwrap_or(&[]);
+        count += 1;
+    }
+    count
 }
 
 fn random_job(rng: &mut Rng) -> RawJob {
@@ -86,11 +101,15 @@ fn random_job(rng: &mut Rng) -> RawJob {
 
 /// A number too few or too many, or counts that do not fit.
 fn miscount(rng: &mut Rng, numbers: &mut Vec<i64>) {
-    // n and m follow the cages, as many as the text says; m is next to n.
+    // n and m follow the cages, as many as the text says; m is next to n; the
+    // number of sets follows the lags.
     let after_cages = CAGE_COUNT + 1 + CAGE_WORDS * numbers[CAGE_COUNT].max(0) as usize;
     let event_count = after_cages.min(numbers.len() - 2);
     let lag_count = event_count + 1;
-    match rng.below(9) {
+    let event_words = EVENT_WORDS * numbers[event_count].max(0) as usize;
+    let lag_words = LAG_WORDS * numbers[lag_count].max(0) as usize;
+    let set_count = (lag_count + 1 + event_words + lag_words).min(numbers.len() - 1);
+    match rng.below(11) {
         0 => {
             numbers.pop();
         }
@@ -100,10 +119,17 @@ fn miscount(rng: &mut Rng, numbers: &mut Vec<i64>) {
         4 => numbers[lag_count] = rng.pick(&[-1, 257, 256, i64::from(i32::MIN)]),
         5 => numbers[CAGE_COUNT] = rng.pick(&[-1, 0, 9, 8, i64::from(i32::MAX)]),
         6 => {
-            numbers.remove(CAGE_COUNT);
+            let place = rng.pick(&[CAGE_COUNT, set_count]);
+            numbers.remove(place);
+        }
+        7 => numbers[set_count] = rng.pick(&[-1, 17, 16, i64::from(i32::MAX)]),
+        8 => {
+            // The member count of the first set, if there is one.
+            let place = (set_count + SET_HEAD_WORDS).min(numbers.len() - 1);
+            numbers[place] = rng.pick(&[-1, 0, 64, 65, i64::from(i32::MIN)]);
         }
         _ => {
-            let place = rng.pick(&[CAGE_COUNT, event_count, lag_count]);
+            let place = rng.pick(&[CAGE_COUNT, event_count, lag_count, set_count]);
             numbers[place] += rng.pick(&[-1, 1]);
         }
     }

@@ -1,5 +1,7 @@
-//! The job: horizon, cages, windows and lags, and the questions 1 to 11, 22, 29
-//! and 30 that decide whether a call is taken.
+//! The job: horizon, cages, windows, lags and sets, and the questions 1 to 11, 22
+//! and 29 to 33 that decide whether a call is taken.
+
+use crate::sets::{admit_sets, Set};
 
 /// The greatest amount of an event in document 01. The inner functions take
 /// it as a parameter, so that small jobs can be enumerated in full.
@@ -25,6 +27,8 @@ pub struct Settings<'a> {
     /// Lmin, Lmax, Q, cover for each cage.
     pub cages: &'a [i32],
     pub lags: &'a [i32],
+    /// Least total, most total, member count, members for each set.
+    pub sets: &'a [i32],
     /// The greatest amount; document 01's is `AMOUNT_BOUND`.
     pub amount_bound: i64,
 }
@@ -79,6 +83,11 @@ impl Window {
             h_min,
             h_max,
         }
+    }
+
+    /// Is the event neither a delivery nor a pull?
+    pub fn is_neutral(&self) -> bool {
+        self.h_min == 0
     }
 
     /// Question 5 for one event.
@@ -143,12 +152,13 @@ pub struct Job {
     /// The events of each cage, in event order.
     pub members: Vec<Vec<usize>>,
     pub lags: Vec<Lag>,
+    pub sets: Vec<Set>,
     pub amount_bound: i64,
 }
 
 impl Job {
     /// Asks the job's own questions in their order: 1, 29, 2, 3, 22, 4, 5, 6,
-    /// 30, 7, 8, 9, 10.
+    /// 30, 7, 8, 9, 10, 31, 32, 33.
     pub fn admit(settings: &Settings, windows: &[i32]) -> Result<Job, Refusal> {
         let horizon = i64::from(settings.horizon);
         ask(1, (0..=HORIZON_BOUND).contains(&horizon))?;
@@ -156,6 +166,7 @@ impl Job {
         let entries = admit_windows(windows, horizon, settings.amount_bound)?;
         let cage_of = admit_cage_words(windows, cages.len())?;
         let lags = admit_lags(settings.lags, entries.len())?;
+        let sets = admit_sets(settings.sets, entries.len())?;
         let mut members = vec![Vec::new(); cages.len()];
         for (event, cage) in cage_of.iter().enumerate() {
             members[*cage].push(event);
@@ -167,6 +178,7 @@ impl Job {
             cage_of,
             members,
             lags,
+            sets,
             amount_bound: settings.amount_bound,
         })
     }
@@ -202,7 +214,7 @@ fn ask(number: i32, yes: bool) -> Result<(), Refusal> {
 }
 
 /// A question put to every entry of a table; the first "no" gives the place.
-fn ask_all<T>(number: i32, entries: &[T], yes: impl Fn(&T) -> bool) -> Result<(), Refusal> {
+pub fn ask_all<T>(number: i32, entries: &[T], yes: impl Fn(&T) -> bool) -> Result<(), Refusal> {
     match entries.iter().position(|entry| !yes(entry)) {
         None => Ok(()),
         Some(place) => Err(Refusal { number, place }),

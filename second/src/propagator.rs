@@ -1,4 +1,4 @@
-//! The propagator (document 01: planner): rounds of the fourteen rules until a
+//! The propagator (document 01: planner): rounds of the rules until a
 //! round writes nothing, a conflict shows, or the log's room is out.
 
 use crate::explain::{premises, Finding};
@@ -9,6 +9,7 @@ use crate::job::{store_windows, Job, Refusal, Settings, Window};
 use crate::rules::{
     lag_earliest_bound, lag_latest_bound, level, share_bound, wait_bound, Candidate, Level, Rule,
 };
+use crate::sets::{least_total_bound, most_total_bound, Sums};
 use crate::views::{Family, View};
 
 /// What a taken call counted.
@@ -122,10 +123,13 @@ impl<'a> Run<'a> {
         }
     }
 
-    /// One round: the lags in table order, then the events in order.
+    /// One round: the lags in table order, the sets in order, then the events.
     fn round(&mut self) -> Result<(), Halt> {
         for lag in 0..self.job.lags.len() {
             self.lag(lag)?;
+        }
+        for set in 0..self.job.sets.len() {
+            self.set(set)?;
         }
         for e in 0..self.windows.len() {
             for family in Family::ALL {
@@ -141,6 +145,22 @@ impl<'a> Run<'a> {
         self.conclude(Rule::LagLatest, lag, self.job.lags[lag].a, bound)?;
         let bound = lag_earliest_bound(self.job, &self.windows, lag);
         self.conclude(Rule::LagEarliest, lag, self.job.lags[lag].b, bound)
+    }
+
+    /// Rules 17 and 18 for a set, members as listed. The ends that they move are
+    /// those of the target alone, whose amounts they do not read.
+    fn set(&mut self, number: usize) -> Result<(), Halt> {
+        let set = &self.job.sets[number];
+        let mut sums = Sums::of(set, &self.windows);
+        for &y in &set.members {
+            let others = sums.without(&self.windows[y]);
+            let bound = least_total_bound(set, others);
+            self.conclude(Rule::LeastTotal, number, y, bound)?;
+            let bound = most_total_bound(set, others);
+            self.conclude(Rule::MostTotal, number, y, bound)?;
+            sums = others.with(&self.windows[y]);
+        }
+        Ok(())
     }
 
     /// The three rules of a family for an event.

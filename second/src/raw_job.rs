@@ -9,6 +9,7 @@ use crate::propagator::{plan, PlanAnswer, Tally};
 pub const MOST_CAGE_WORDS: usize = 40;
 pub const MOST_WINDOW_WORDS: usize = 360;
 pub const MOST_LAG_WORDS: usize = 800;
+pub const MOST_SET_WORDS: usize = 1_200;
 pub const MOST_BUFFER_WORDS: usize = 20_000;
 
 /// A job as words, sound or not.
@@ -18,6 +19,7 @@ pub struct RawJob {
     pub cages: Vec<i32>,
     pub windows: Vec<i32>,
     pub lags: Vec<i32>,
+    pub sets: Vec<i32>,
     /// The greatest amount that the job is meant for.
     pub amount_bound: i64,
 }
@@ -38,6 +40,7 @@ impl RawJob {
             horizon: self.horizon,
             cages: &self.cages,
             lags: &self.lags,
+            sets: &self.sets,
             amount_bound: self.amount_bound,
         }
     }

@@ -1,7 +1,8 @@
-//! The fourteen rules of document 01: what each gives on given windows.
+//! The rules, 1 to 14 of document 01 and 17 and 18 of document 02: what each gives on given windows.
 
 use crate::explanation::End;
 use crate::job::{Job, Window};
+use crate::sets::{least_total_bound, most_total_bound, Sums};
 use crate::views::{Family, Order, Side, Standing, View};
 
 /// A rule.
@@ -17,10 +18,22 @@ pub enum Rule {
     Wait(Family),
     /// Rules 5, 8, 11, 14: the target must give its share.
     Share(Family),
+    /// Rule 17: h(y) ≥ least − (sum of the others' h_max).
+    LeastTotal,
+    /// Rule 18: h(y) ≤ most − (sum of the others' h_min).
+    MostTotal,
+}
+
+/// What the subject of a rule is.
+#[derive(Clone, Copy, Debug, PartialEq, Eq)]
+pub enum Subject {
+    Lag,
+    Event,
+    Set,
 }
 
 impl Rule {
-    /// The rule's number in document 01.
+    /// The rule's number.
     pub fn number(self) -> i32 {
         match self {
             Rule::LagLatest => 1,
@@ -28,10 +41,12 @@ impl Rule {
             Rule::Level(family) => family.first_number(),
             Rule::Wait(family) => family.first_number() + 1,
             Rule::Share(family) => family.first_number() + 2,
+            Rule::LeastTotal => 17,
+            Rule::MostTotal => 18,
         }
     }
 
-    /// The rule with a number 1 to 14.
+    /// The rule with a number.
     pub fn from_number(number: i32) -> Option<Rule> {
         let family = |first: i32| {
             Family::ALL
@@ -44,13 +59,19 @@ impl Rule {
             3 | 6 | 9 | 12 => family(number).map(Rule::Level),
             4 | 7 | 10 | 13 => family(number - 1).map(Rule::Wait),
             5 | 8 | 11 | 14 => family(number - 2).map(Rule::Share),
+            17 => Some(Rule::LeastTotal),
+            18 => Some(Rule::MostTotal),
             _ => None,
         }
     }
 
-    /// Is the subject a lag number?
-    pub fn concerns_lag(self) -> bool {
-        matches!(self, Rule::LagLatest | Rule::LagEarliest)
+    /// What the subject is.
+    pub fn subject(self) -> Subject {
+        match self {
+            Rule::LagLatest | Rule::LagEarliest => Subject::Lag,
+            Rule::Level(_) | Rule::Wait(_) | Rule::Share(_) => Subject::Event,
+            Rule::LeastTotal | Rule::MostTotal => Subject::Set,
+        }
     }
 
     /// The end that the rule's bound is put at; none for a level rule.
@@ -61,6 +82,8 @@ impl Rule {
             Rule::Level(_) => None,
             Rule::Wait(_) => Some(End::Earliest),
             Rule::Share(family) => Some(family.side.bound_end()),
+            Rule::LeastTotal => Some(End::Smallest),
+            Rule::MostTotal => Some(End::Largest),
         }
     }
 }
@@ -231,6 +254,19 @@ pub fn outcome(
             let most = level(&view, windows, subject).most;
             share_bound(&view, windows, subject, target, most)
         }
+        Rule::LeastTotal => Some(least_total_bound(
+            &job.sets[subject],
+            other_sums(job, windows, subject, target),
+        )),
+        Rule::MostTotal => Some(most_total_bound(
+            &job.sets[subject],
+            other_sums(job, windows, subject, target),
+        )),
     };
     bound.map_or(Outcome::Nothing, Outcome::Bound)
+}
+
+/// The sums of a set's members but the target, one of them.
+fn other_sums(job: &Job, windows: &[Window], set: usize, target: usize) -> Sums {
+    Sums::of(&job.sets[set], windows).without(&windows[target])
 }

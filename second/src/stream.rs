@@ -13,8 +13,8 @@ const PLAN_KIND: i32 = 1;
 const READ_KIND: i32 = 2;
 const END_WORD: i32 = 0;
 const WORD_BYTES: usize = 4;
-/// Cages, windows, lags, buffer.
-const TABLES: usize = 4;
+/// Cages, windows, lags, sets, buffer.
+const TABLES: usize = 5;
 /// Kind, H and the lengths of the tables.
 pub const HEADER_WORDS: usize = 2 + TABLES;
 /// A longer table in a header means that the stream is not one of ours.
@@ -40,7 +40,7 @@ impl Record {
     /// The record's tables in the order in which they are written.
     pub fn tables(&self) -> [&[i32]; TABLES] {
         let job = &self.job;
-        [&job.cages, &job.windows, &job.lags, &self.buffer]
+        [&job.cages, &job.windows, &job.lags, &job.sets, &self.buffer]
     }
 
     pub fn write(&self, out: &mut impl Write) -> io::Result<()> {
@@ -86,12 +86,13 @@ impl<R: Read> RecordReader<R> {
         };
         let horizon = self.words(1)?[0];
         let lengths = self.words(TABLES)?;
-        let [cages, windows, lags, buffer] = self.tables(&lengths)?;
+        let [cages, windows, lags, sets, buffer] = self.tables(&lengths)?;
         let job = RawJob {
             horizon,
             cages,
             windows,
             lags,
+            sets,
             amount_bound: AMOUNT_BOUND,
         };
         Ok(Some(Record { call, job, buffer }))

@@ -9,14 +9,20 @@ use crate::job::{
 };
 use crate::propagator::{plan, PlanAnswer, Tally};
 use crate::raw_job::RawJob;
+use crate::sets::{MAX_SETS, SET_HEAD_WORDS};
 
 /// The log's room in words.
 pub const TEXT_ROOM: usize = 16_000;
-/// H, the cage count, n, m.
-const COUNT_NUMBERS: usize = 4;
+/// H, the cage count, n, m, the number of sets.
+const COUNT_NUMBERS: usize = 5;
+/// The most members of a set in a text.
+const MOST_MEMBERS: usize = 64;
 /// No well-formed text has more numbers than this.
-const MOST_NUMBERS: usize =
-    COUNT_NUMBERS + CAGE_WORDS * MAX_CAGES + EVENT_WORDS * MAX_EVENTS + LAG_WORDS * MAX_LAGS;
+const MOST_NUMBERS: usize = COUNT_NUMBERS
+    + CAGE_WORDS * MAX_CAGES
+    + EVENT_WORDS * MAX_EVENTS
+    + LAG_WORDS * MAX_LAGS
+    + (SET_HEAD_WORDS + MOST_MEMBERS) * MAX_SETS;
 /// The number of the refusal of a text not formed as asked.
 const MALFORMED: i32 = 20;
 /// The size of the pieces that the text is read in.
@@ -129,6 +135,20 @@ impl Parts<'_> {
     }
 }
 
+impl Parts<'_> {
+    /// The number of sets, and the words of each.
+    fn sets(&mut self) -> Result<Vec<i32>, Malformed> {
+        let mut words = Vec::new();
+        for _ in 0..self.count(0, MAX_SETS)? {
+            words.extend(self.take(SET_HEAD_WORDS - 1)?);
+            let members = self.count(0, MOST_MEMBERS)?;
+            words.push(members as i32);
+            words.extend(self.take(members)?);
+        }
+        Ok(words)
+    }
+}
+
 /// Splits the numbers into the parts of a job.
 fn job_of(numbers: &[i32]) -> Result<RawJob, Malformed> {
     let mut parts = Parts { rest: numbers };
@@ -139,6 +159,7 @@ fn job_of(numbers: &[i32]) -> Result<RawJob, Malformed> {
     let lags = parts.count(0, MAX_LAGS)?;
     let windows = parts.take(events * EVENT_WORDS)?;
     let lags = parts.take(lags * LAG_WORDS)?;
+    let sets = parts.sets()?;
     if !parts.rest.is_empty() {
         return Err(Malformed);
     }
@@ -147,6 +168,7 @@ fn job_of(numbers: &[i32]) -> Result<RawJob, Malformed> {
         cages,
         windows,
         lags,
+        sets,
         amount_bound: AMOUNT_BOUND,
     })
 }

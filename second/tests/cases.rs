@@ -13,6 +13,7 @@ struct Case {
     cages: Vec<i32>,
     windows: Vec<i32>,
     lags: Vec<i32>,
+    sets: Vec<i32>,
     room: usize,
 }
 
@@ -28,6 +29,7 @@ fn case(q: i32, windows: &[i32]) -> Case {
         cages: vec![0, 10, q, 1],
         windows: in_cage_0(windows),
         lags: Vec::new(),
+        sets: Vec::new(),
         room: 40,
     }
 }
@@ -49,6 +51,11 @@ impl Case {
         self
     }
 
+    fn with_sets(mut self, sets: &[i32]) -> Case {
+        self.sets = sets.to_vec();
+        self
+    }
+
     fn with_room(mut self, room: usize) -> Case {
         self.room = room;
         self
@@ -59,6 +66,7 @@ impl Case {
             horizon: self.h,
             cages: &self.cages,
             lags: &self.lags,
+            sets: &self.sets,
             amount_bound: AMOUNT_BOUND,
         }
     }
@@ -297,6 +305,94 @@ fn questions_of_cages() {
     job(&cage, &[0, 5, 0, 0]).is_refused(4, 0);
 }
 
+/// A job whose cage never matters: amounts that cancel, limits far off.
+fn wide(windows: &[i32]) -> Case {
+    let mut job = case(0, windows);
+    job.cages = vec![-1_000, 1_000, 0, 1];
+    job
+}
+
+#[test]
+fn a_set_binds_its_members() {
+    let windows = [0, 9, 1, 5, 0, 9, 1, 5, 0, 9, 0, 0, 0, 9, -7, -1];
+    // The neutral event gives no fact; rule 18 reads what rule 17 left.
+    wide(&windows).with_sets(&[7, 8, 3, 1, 2, 0]).gives(
+        PlanAnswer::Settled(tally(2, 2, 23)),
+        &[0, 9, 2, 5, 0, 9, 2, 5, 0, 9, 0, 0, 0, 9, -7, -1],
+        &[
+            17, 0, 1, 3, 2, 1, 0, 4, 5, 10, //
+            17, 0, 0, 3, 2, 1, 1, 4, 5, 10, //
+            2, 10, 4207,
+        ],
+    );
+    // A pull among them: h(0) ≤ −6 − (−7), then h(3) ≤ −6 − 1.
+    wide(&windows).with_sets(&[-6, -6, 2, 0, 3]).gives(
+        PlanAnswer::Settled(tally(2, 2, 23)),
+        &[0, 9, 1, 1, 0, 9, 1, 5, 0, 9, 0, 0, 0, 9, -7, -7],
+        &[
+            18, 0, 0, 4, 1, 1, 3, 3, -7, 10, //
+            18, 0, 3, 4, -7, 1, 0, 3, 1, 10, //
+            2, 10, 4207,
+        ],
+    );
+}
+
+#[test]
+fn a_neutral_member_in_conflict() {
+    let windows = [0, 9, 0, 0, 0, 9, 1, 5];
+    wide(&windows).with_sets(&[6, 9, 2, 0, 1]).gives(
+        PlanAnswer::Conflict(tally(1, 1, 16)),
+        &windows,
+        &[17, 0, 0, 0, 0, 2, 0, 4, 0, 1, 4, 5, 13, 1, 0, 4207],
+    );
+    wide(&windows).with_sets(&[-9, 0, 2, 0, 1]).gives(
+        PlanAnswer::Conflict(tally(1, 1, 16)),
+        &windows,
+        &[18, 0, 0, 0, 0, 2, 0, 3, 0, 1, 3, 1, 13, 1, 0, 4207],
+    );
+}
+
+#[test]
+fn slips_of_sets_in_the_reader() {
+    let job = wide(&[0, 9, 1, 5, 0, 9, 1, 5]).with_sets(&[7, 9, 1, 0, 7, 8, 2, 1, 0]);
+    let slip = |words: [i32; 5]| [words.as_slice(), &[1, 1, 4, 5, 10, 1, 0, 4207]].concat();
+    assert_eq!(job.read(&slip([17, 1, 0, 3, 2])).0, ReadAnswer::Open);
+    // Stricter, another set's member, no such set, another kind, 18 in its place.
+    assert_eq!(job.read(&slip([17, 1, 0, 3, 3])).0, refused(16, 0));
+    assert_eq!(job.read(&slip([17, 0, 1, 3, 2])).0, refused(14, 0));
+    assert_eq!(job.read(&slip([17, 2, 0, 3, 2])).0, refused(14, 0));
+    assert_eq!(job.read(&slip([17, 1, 0, 4, 2])).0, refused(14, 0));
+    assert_eq!(job.read(&slip([18, 1, 0, 4, 4])).0, refused(16, 0));
+    assert_eq!(job.read(&slip([19, 1, 0, 4, 4])).0, refused(13, 0));
+}
+
+#[test]
+fn questions_of_sets() {
+    let job = |sets: &[i32]| wide(&[0, 9, 1, 5, 0, 9, 1, 5]).with_sets(sets);
+    let settled = PlanAnswer::Settled(tally(0, 1, 3));
+    let whole = [0, 9, 1, 0];
+    let windows = [0, 9, 1, 5, 0, 9, 1, 5];
+    job(&whole.repeat(16)).gives(settled, &windows, &[0, 0, 4207]);
+    job(&whole.repeat(17)).is_refused(31, 16);
+    job(&[whole.repeat(16).as_slice(), &[0]].concat()).is_refused(31, 16);
+    job(&[0, 9, 1, 0, 0, 9]).is_refused(31, 1);
+    job(&[0, 9, 2, 0]).is_refused(31, 0);
+    job(&[0, 9, i32::MAX, 0]).is_refused(31, 0);
+    // 31 of all before 32, 32 of all before 33; a count under 1 is walked as 0.
+    job(&[0, 9, 0, 0]).is_refused(31, 1);
+    job(&[0, 9, 0]).is_refused(32, 0);
+    job(&[9, 0, 1, 0, 0, 9, -1]).is_refused(32, 1);
+    job(&[0, 9, 2, 1, 1]).is_refused(32, 0);
+    job(&[0, 9, 1, 2]).is_refused(32, 0);
+    job(&[0, 9, 1, 0, 9, 8, 1, 0]).is_refused(33, 1);
+    job(&[-639_936, 639_936, 1, 0]).gives(settled, &windows, &[0, 0, 4207]);
+    job(&[-639_937, 0, 1, 0]).is_refused(33, 0);
+    job(&[0, 639_937, 1, 0]).is_refused(33, 0);
+    // After 10, before 11.
+    job(&[0, 9, 0]).with_lags(&[0, 1, 20_001]).is_refused(10, 0);
+    job(&[1, 0, 1, 0]).with_room(2).is_refused(33, 0);
+}
+
 #[test]
 fn another_cover_is_22() {
     for cover in [-1, 2, i32::MIN, i32::MAX] {
@@ -419,6 +515,7 @@ fn extreme_words_are_harmless() {
         horizon: word,
         cages: &[word; 4],
         lags: &[word; 3],
+        sets: &[word; 3],
         amount_bound: AMOUNT_BOUND,
     };
     let answer = plan(&settings, &mut [word; 5], &mut [word; 3]);

@@ -3,7 +3,9 @@
 use second::answers::{answer_line, write_answers};
 use second::brute;
 use second::counts::write_counts;
-use second::raw_job::{MOST_BUFFER_WORDS, MOST_CAGE_WORDS, MOST_LAG_WORDS, MOST_WINDOW_WORDS};
+use second::raw_job::{
+    MOST_BUFFER_WORDS, MOST_CAGE_WORDS, MOST_LAG_WORDS, MOST_SET_WORDS, MOST_WINDOW_WORDS,
+};
 use second::stream::{checksum, write_stream, Call, RecordReader};
 
 fn small_stream(seed: u64) -> Vec<u8> {
@@ -28,6 +30,7 @@ fn records_keep_their_limits() {
             MOST_CAGE_WORDS,
             MOST_WINDOW_WORDS,
             MOST_LAG_WORDS,
+            MOST_SET_WORDS,
             MOST_BUFFER_WORDS,
         ];
         for (table, most) in record.tables().iter().zip(most) {
@@ -75,8 +78,8 @@ fn every_refusal_and_every_rule_is_reached() {
     write_counts(bytes.as_slice(), &mut text).expect("a whole stream");
     let text = String::from_utf8(text).expect("plain text");
     let rows = count_rows(&text);
-    let (refusals, rules) = rows.split_at(22);
-    assert_eq!(rules.len(), 2 * 14, "{text}");
+    let (refusals, rules) = rows.split_at(25);
+    assert_eq!(rules.len(), 2 * 16, "{text}");
     for row in refusals {
         let by_planner = !(12..=19).contains(&row[0]);
         assert!(row[3] > 0 && (row[1] > 0) == by_planner, "{text}");

@@ -36,10 +36,11 @@ fn assign(
     }
 }
 
-/// Do all lags hold, and in every cage both limits at every whole moment, also
+/// Do all lags and set totals hold, and in every cage both limits at every whole moment, also
 /// before the first event?
 fn is_legal(job: &Job, schedule: &Schedule) -> bool {
     lags_hold(job, schedule)
+        && totals_hold(job, schedule)
         && (0..job.cages.len()).all(|cage| {
             (-1..=job.horizon + 1).all(|moment| limits_hold(job, schedule, cage, moment))
         })
@@ -49,6 +50,13 @@ fn lags_hold(job: &Job, schedule: &Schedule) -> bool {
     job.lags
         .iter()
         .all(|lag| schedule[lag.a].0 - schedule[lag.b].0 <= lag.d)
+}
+
+fn totals_hold(job: &Job, schedule: &Schedule) -> bool {
+    job.sets.iter().all(|set| {
+        let total: i64 = set.members.iter().map(|y| schedule[*y].1).sum();
+        set.least <= total && total <= set.most
+    })
 }
 
 /// Is the cage's stock within both limits at a moment? Under cover 0 the low

@@ -103,6 +103,7 @@ fn print_failure(raw: &RawJob, failure: &Failure, out: &mut impl Write) -> io::R
     for lag in raw.lags.chunks(LAG_WORDS) {
         writeln!(out, "lag {lag:?}")?;
     }
+    writeln!(out, "sets {:?}", raw.sets)?;
     writeln!(out, "list {:?}", failure.list)
 }
 

@@ -17,6 +17,7 @@ pub fn small_job(rng: &mut Rng) -> RawJob {
             .flat_map(|_| small_window(rng, horizon, cages))
             .collect(),
         lags: small_lags(rng, events),
+        sets: small_sets(rng, events),
         amount_bound: BOUND,
     }
 }
@@ -54,4 +55,23 @@ fn small_lags(rng: &mut Rng, events: usize) -> Vec<i32> {
         lags.extend([a as i32, b as i32, rng.within(-3, 3) as i32]);
     }
     lags
+}
+
+fn small_sets(rng: &mut Rng, events: usize) -> Vec<i32> {
+    let count = if events == 0 {
+        0
+    } else {
+        rng.pick(&[0, 0, 0, 1, 1, 2])
+    };
+    let mut sets = Vec::new();
+    for _ in 0..count {
+        let mut members: Vec<i32> = (0..events as i32).collect();
+        rng.shuffle(&mut members);
+        members.truncate(1 + rng.below(events));
+        let least = rng.within(-6, 5);
+        let most = rng.within(least, 6);
+        sets.extend([least as i32, most as i32, members.len() as i32]);
+        sets.extend(members);
+    }
+    sets
 }
