@@ -1,8 +1,9 @@
--- The job of a text as the code hands it over: its sizes, and its words where they stand in the table.
+-- The job of a text as the code hands it over: its sizes, and its words where they stand in the table; how the code finds them, count by count.
 use mathlib.Core.Path.{_≡_}
 use mathlib.Core.Bool.{cond}
 use mathlib.Core.List.{List}
-use Prim.Native.Nat.{ℕ, _+_, _*_, _≤_}
+use Prim.Native.Nat.{ℕ, zero, suc, _+_, _*_, _-_, _≤_}
+use lib.Dec.{eqb, ltb}
 use lib.IntN.{ℤ, pos, natAbs}
 use lib.ListN.{length, getD, take, drop}
 use Rattle.model.specs.Questions.{in-range}
@@ -21,19 +22,27 @@ at ns i = getD ns i (pos 0)
 unfoldable pub count-of : ℤ → ℕ → ℕ → Count
 count-of z least most = cond (in-range (pos least) (pos most) z) (Is (natAbs z)) Outside
 
--- The number of cages.
-abbrev pub cage-count : List ℤ → Count
-cage-count ns = count-of (at ns 1) 1 8
+-- The number at place i as a count; none is there past the end.
+abbrev pub count-at : List ℤ → ℕ → ℕ → ℕ → Count
+count-at ns i least most = cond (ltb i (length ns)) (count-of (at ns i) least most) Outside
 
--- Where the words of the windows begin, and those of the lags; how many numbers there are in all.
+-- Where the sets that begin at place i end, so many of them.
+unfoldable pub walked : List ℤ → ℕ → ℕ → Count
+walked ns i zero = Is i
+walked ns i (suc s) = elim (count-at ns (i + 2) 0 64) [ Is k ↦ walked ns (i + 3 + k) s | Outside ↦ Outside ]
+
+-- Where the words of the windows, of the lags and of the sets begin; how many numbers there are in all.
 abbrev pub windows-at : Sizes → ℕ
 windows-at s = 4 + 4 * s .cages
 
 abbrev pub lags-at : Sizes → ℕ
 lags-at s = windows-at s + 5 * s .events
 
+abbrev pub sets-at : Sizes → ℕ
+sets-at s = lags-at s + 3 * s .lags + 1
+
 abbrev pub numbers-of : Sizes → ℕ
-numbers-of s = lags-at s + 3 * s .lags
+numbers-of s = sets-at s + s .words
 
 -- The job of these sizes in a table that begins with its numbers.
 abbrev pub job-in : List ℤ → Sizes → Job
@@ -43,17 +52,44 @@ job-in t s =
       cage-table = take (4 * s .cages) (drop 2 t);
       window-table = take (5 * s .events) (drop (windows-at s) t);
       lag-table = take (3 * s .lags) (drop (lags-at s) t);
+      set-table = take (s .words) (drop (sets-at s) t);
     }
 
 abbrev pub told : Layout → List ℤ → Parsed Job
 told (Fits s) t = parsed (job-in t s)
 told Malformed t = malformed
 
--- A job of at most 8 cages, 64 events and 256 lags, whose words are within the table.
+-- How numbers are laid out: a count at its place, and what follows from it; nothing is behind the sets.
+abbrev pub with-count : Count → (ℕ → Layout) → Layout
+with-count (Is n) f = f n
+with-count Outside f = Malformed
+
+-- c cages, n events, m lags, and sets whose words end before place e.
+unfoldable pub up-to : List ℤ → ℕ → ℕ → ℕ → ℕ → Layout
+up-to ns c n m e =
+    cond (eqb e (length ns)) (Fits (record { cages = c; events = n; lags = m; words = e - (5 + 4 * c + 5 * n + 3 * m) })) Malformed
+
+unfoldable pub behind-sets : List ℤ → ℕ → ℕ → ℕ → ℕ → Layout
+behind-sets ns c n m s = with-count (walked ns (5 + 4 * c + 5 * n + 3 * m) s) (up-to ns c n m)
+
+unfoldable pub behind-lags : List ℤ → ℕ → ℕ → ℕ → Layout
+behind-lags ns c n m = with-count (count-at ns (4 + 4 * c + 5 * n + 3 * m) 0 16) (behind-sets ns c n m)
+
+unfoldable pub behind-n : List ℤ → ℕ → ℕ → Layout
+behind-n ns c n = with-count (count-at ns (3 + 4 * c) 0 256) (behind-lags ns c n)
+
+unfoldable pub behind-cages : List ℤ → ℕ → Layout
+behind-cages ns c = with-count (count-at ns (2 + 4 * c) 0 64) (behind-n ns c)
+
+unfoldable pub layout-of : List ℤ → Layout
+layout-of ns = with-count (count-at ns 1 1 8) (behind-cages ns)
+
+-- A job of at most 8 cages, 64 events, 256 lags and 16 sets of 64 members, whose words are within the table.
 pub record Room (s : Sizes) (t : List ℤ) : Type 0 where
   pub few-cages : s .cages ≤ 8
   pub few-events : s .events ≤ 64
   pub few-lags : s .lags ≤ 256
+  pub few-words : s .words ≤ 1072
   pub inside : numbers-of s ≤ length t
 
 abbrev pub Roomy : Layout → List ℤ → Type 0

@@ -1,30 +1,31 @@
 // The job that a whole text says: how its numbers, as they stand in the table, are laid out.
 ghost use mathlib.Core.Path.{_≡_};
-ghost use Prim.Native.Nat.{_≤_, _<_, min};
-ghost use lib.ListN.{length, take};
+ghost use Prim.Native.Nat.{_≤_, min};
+ghost use lib.ListN.{take};
 ghost use Rattle.model.specs.Text.{job-of};
 ghost use Rattle.scanner.specs.Scanner.{state, finished};
-ghost use Rattle.scanner.specs.Layout.{at, count-of, cage-count, Handed};
+ghost use Rattle.scanner.specs.Layout.{count-of, count-at, walked, behind-sets, behind-lags, behind-n, behind-cages, layout-of, Handed};
 use crate::scan::Scan;
 use crate::scan::end_token;
 
-// H, a count and 4 words a cage of 8, two counts, 5 words an event of 64, 3 words a lag of 256: no job has more numbers.
-pub const MOST_NUMBERS: usize = 1124;
+// H, a count and 4 words a cage of 8, two counts, 5 words an event of 64, 3 words a lag of 256, a count, 3 words a set of 16 and its members of 64: no job has more numbers.
+pub const MOST_NUMBERS: usize = 2197;
 
-// How many cages, events and lags there are.
+// How many cages, events and lags there are, and how many words of sets.
 pub struct Sizes {
     pub cages: usize,
     pub events: usize,
     pub lags: usize,
+    pub words: usize,
 }
 
-// How numbers are laid out: H, the number of cages and their words, n m, then n events, m lags; or otherwise, which is 20.
+// How numbers are laid out: H, the number of cages and their words, n m, then n events, m lags, the number of sets and their words; or otherwise, which is 20.
 pub enum Layout {
     Fits(Sizes),
     Malformed,
 }
 
-// A number as a count.
+// A number as a count, or a place.
 enum Count {
     Is(usize),
     Outside,
@@ -53,53 +54,100 @@ fn counted(z: i32, least: usize, most: usize) -> Count
     Count::Is(count)
 }
 
-// The number at place i, if it is in least..most.
+// The number at place i, if there is one and it is in least..most.
 fn count_at(numbers: &[i32], i: usize, least: usize, most: usize) -> Count
-    requires { ⌜ i < length (now numbers) ⌝ }
-    ensures { λ r. ⌜ r ≡ count-of (at (now (numbers .entry)) i) least most ⌝ }
+    ensures { λ r. ⌜ r ≡ count-at (now (numbers .entry)) i least most ⌝ }
 {
-    counted(numbers[i], least, most)
+    if i < numbers.len() {
+        return counted(numbers[i], least, most);
+    }
+    Count::Outside
 }
 
-// The counts n and m behind the words of so many cages, if there are just as many numbers as they announce.
-fn laid_behind(numbers: &[i32], cages: usize) -> Layout
-    requires { ⌜ (2 ≤ length (now numbers)) × (Count.Is cages ≡ cage-count (now numbers)) ⌝ }
-    ensures { λ r. ⌜ Handed r (now (numbers .entry)) (job-of (now (numbers .entry))) ⌝ }
+// The place behind the sets, so many of them, the first at place i.
+fn walk(numbers: &[i32], i: usize, sets: usize) -> Count
+    requires { ⌜ (i ≤ 2000) × (sets ≤ 16) ⌝ }
+    ensures { λ r. ⌜ r ≡ walked (now (numbers .entry)) i sets ⌝ }
 {
-    let behind = 2 + 4 * cages;
-    if numbers.len() < behind + 2 {
-        return Layout::Malformed;
+    let mut at = i;
+    let mut g: usize = 0;
+    while g < sets {
+        let k = count_at(numbers, at + 2, 0, 64);
+        let Count::Is(members) = k else {
+            return Count::Outside;
+        };
+        at = at + 3 + members;
+        g += 1;
     }
-    let n = count_at(numbers, behind, 0, 64);
-    let Count::Is(events) = n else {
+    Count::Is(at)
+}
+
+// How numbers are laid out whose sets begin behind so many cages, events and lags.
+fn behind_sets(numbers: &[i32], cages: usize, events: usize, lags: usize, sets: usize) -> Layout
+    requires { ⌜ (cages ≤ 8) × (events ≤ 64) × (lags ≤ 256) × (sets ≤ 16) ⌝ }
+    ensures { λ r. ⌜ r ≡ behind-sets (now (numbers .entry)) cages events lags sets ⌝ }
+{
+    let begin = 5 + 4 * cages + 5 * events + 3 * lags;
+    let end = walk(numbers, begin, sets);
+    let Count::Is(last) = end else {
         return Layout::Malformed;
     };
-    let m = count_at(numbers, behind + 1, 0, 256);
-    let Count::Is(lags) = m else {
-        return Layout::Malformed;
-    };
-    if numbers.len() == behind + 2 + 5 * events + 3 * lags {
+    if last == numbers.len() {
         return Layout::Fits(Sizes {
             cages,
             events,
             lags,
+            words: last - begin,
         });
     }
     Layout::Malformed
 }
 
-// The number of cages, and the counts behind their words.
-fn laid_out(numbers: &[i32]) -> Layout
-    ensures { λ r. ⌜ Handed r (now (numbers .entry)) (job-of (now (numbers .entry))) ⌝ }
+// The number of sets behind the lags.
+fn behind_lags(numbers: &[i32], cages: usize, events: usize, lags: usize) -> Layout
+    requires { ⌜ (cages ≤ 8) × (events ≤ 64) × (lags ≤ 256) ⌝ }
+    ensures { λ r. ⌜ r ≡ behind-lags (now (numbers .entry)) cages events lags ⌝ }
 {
-    if numbers.len() < 2 {
+    let s = count_at(numbers, 4 + 4 * cages + 5 * events + 3 * lags, 0, 16);
+    let Count::Is(sets) = s else {
         return Layout::Malformed;
-    }
+    };
+    behind_sets(numbers, cages, events, lags, sets)
+}
+
+// m behind n.
+fn behind_n(numbers: &[i32], cages: usize, events: usize) -> Layout
+    requires { ⌜ (cages ≤ 8) × (events ≤ 64) ⌝ }
+    ensures { λ r. ⌜ r ≡ behind-n (now (numbers .entry)) cages events ⌝ }
+{
+    let m = count_at(numbers, 3 + 4 * cages, 0, 256);
+    let Count::Is(lags) = m else {
+        return Layout::Malformed;
+    };
+    behind_lags(numbers, cages, events, lags)
+}
+
+// n behind the words of the cages.
+fn behind_cages(numbers: &[i32], cages: usize) -> Layout
+    requires { ⌜ cages ≤ 8 ⌝ }
+    ensures { λ r. ⌜ r ≡ behind-cages (now (numbers .entry)) cages ⌝ }
+{
+    let n = count_at(numbers, 2 + 4 * cages, 0, 64);
+    let Count::Is(events) = n else {
+        return Layout::Malformed;
+    };
+    behind_n(numbers, cages, events)
+}
+
+// The number of cages behind H, and all that follows it.
+fn laid_out(numbers: &[i32]) -> Layout
+    ensures { λ r. ⌜ r ≡ layout-of (now (numbers .entry)) ⌝ }
+{
     let c = count_at(numbers, 1, 1, 8);
     let Count::Is(cages) = c else {
         return Layout::Malformed;
     };
-    laid_behind(numbers, cages)
+    behind_cages(numbers, cages)
 }
 
 // How the first numbers of the table are laid out.
@@ -111,7 +159,7 @@ fn stored(many: usize, table: &[i32]) -> Layout
 }
 
 // The end of the text: the sizes of the job that it says, whose numbers then stand at the start of the table.
-// It rules out a program that takes nine cages (nine_cages), one that refuses 64 events (sixty_four_events_refused) and one that takes a number too many (number_too_many).
+// It rules out a program that takes nine cages (nine_cages) or seventeen sets (seventeen_sets), one that refuses 64 events (sixty_four_events_refused) and one that takes a number too many (number_too_many).
 pub fn finish(s: Scan, table: &mut [i32]) -> Layout
     ensures { λ r. ⌜ Handed r (now (table .exit)) (finished (state s (now (table .entry)))) ⌝ }
 {

@@ -1,6 +1,6 @@
 -- `scanner::layout::stored` meets its contract.
 -- Assumes nothing.
-use Rattle.scanner.proofs.Laying.{handed-within}
+use Rattle.scanner.proofs.Laying.{handed-within, laid}
 use Rattle.scanner.proofs.Steps.{take-least, least-length}
 use borrow.Author.Needs.{needs}
 use Rattle.scanner.proofs.layout.stored.Statement.{statement}
@@ -19,7 +19,7 @@ returns : tie.Need-returns
 returns c =
     let a = c .before .before .before .args in
     let k = c .before .before .least in
-    handed-within _ (a .many) (k .result) (a .table .now) (take-least (a .table .now) _ (k .ensures)) (c .laid-out .ensures)
+    handed-within _ (a .many) (k .result) (a .table .now) (take-least (a .table .now) _ (k .ensures)) (rw (c .laid-out .ensures) (laid _))
 
 pub stored-spec : {M : Type 1} → statement M
 stored-spec =
