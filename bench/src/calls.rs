@@ -17,8 +17,8 @@ pub const CONFLICT: i32 = 1;
 pub const STOPPED: i32 = 2;
 pub const OPEN: i32 = 3;
 
-/// A call of the static library: a table is a pointer and a length. The third
-/// one, buffer or list, is written by the planner alone.
+/// A call of the static library: a table is a pointer and a length. The list,
+/// the planner's buffer, is written by the planner alone.
 type Call<List> = unsafe extern "C" fn(
     h: i32,
     cages: *const i32,
@@ -27,6 +27,8 @@ type Call<List> = unsafe extern "C" fn(
     table_words: usize,
     lags: *const i32,
     lag_words: usize,
+    sets: *const i32,
+    set_words: usize,
     list: List,
     list_words: usize,
     answer: *mut i32,
@@ -38,11 +40,11 @@ type Call<List> = unsafe extern "C" fn(
 extern "C" {
     fn orthmuzi_plan(
         h: i32, cages: *const i32, cage_words: usize, table: *mut i32, table_words: usize, lags: *const i32, lag_words: usize,
-        buffer: *mut i32, buffer_words: usize, answer: *mut i32, answer_words: usize,
+        sets: *const i32, set_words: usize, buffer: *mut i32, buffer_words: usize, answer: *mut i32, answer_words: usize,
     ) -> i32;
     fn orthmuzi_read(
         h: i32, cages: *const i32, cage_words: usize, table: *mut i32, table_words: usize, lags: *const i32, lag_words: usize,
-        list: *const i32, list_words: usize, answer: *mut i32, answer_words: usize,
+        sets: *const i32, set_words: usize, list: *const i32, list_words: usize, answer: *mut i32, answer_words: usize,
     ) -> i32;
 }
 
@@ -65,6 +67,8 @@ fn answered<List>(
             windows.len(),
             job.lags.as_ptr(),
             job.lags.len(),
+            job.sets.as_ptr(),
+            job.sets.len(),
             list,
             list_words,
             words.as_mut_ptr(),

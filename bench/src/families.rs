@@ -1,9 +1,10 @@
 //! Jobs with 64 events and up to 256 lags that drive the planner hard: creeps,
-//! chases, hidden plans, open amounts.
+//! chases, hidden plans, open amounts, contract totals.
 
 use second::job::{HORIZON_BOUND, MAX_EVENTS, MAX_LAGS, STOCK_BOUND};
 use second::raw_job::RawJob;
 use second::rng::Rng;
+use second::sets::MAX_SETS;
 
 use crate::jobs::job;
 
@@ -198,4 +199,40 @@ pub fn open_amounts() -> RawJob {
         lags.extend([a as i32, b as i32, HORIZON]);
     }
     job((0, 100), HORIZON_BOUND, windows, lags)
+}
+
+// ---------------------------------------------------------------------------
+// Contract totals
+// ---------------------------------------------------------------------------
+
+/// Deliveries and pulls that are each nearly as large as they can be, limits
+/// far off, and 16 sets of 2 to 12 deliveries or pulls in any order, bound to
+/// their hidden total or nearly so.
+pub fn contract_totals() -> RawJob {
+    let mut rng = Rng::new(17);
+    let mut windows = Vec::new();
+    let mut amounts = Vec::new();
+    for event in 0..MAX_EVENTS as i32 {
+        let amount = rng.within(100, 500);
+        let (least, most) = (amount - rng.within(0, 60), amount + rng.within(0, 6));
+        let (hidden, low, high) = if event % 2 == 0 {
+            (amount, least, most)
+        } else {
+            (-amount, -most, -least)
+        };
+        amounts.push(hidden);
+        windows.extend([event, event + 100, low as i32, high as i32]);
+    }
+    let mut job = job(SLACK, HORIZON_BOUND, windows, Vec::new());
+    for set in 0..MAX_SETS {
+        let mut members: Vec<usize> = (set % 2..MAX_EVENTS).step_by(2).collect();
+        rng.shuffle(&mut members);
+        members.truncate(rng.within(2, 12) as usize);
+        let total: i64 = members.iter().map(|y| amounts[*y]).sum();
+        let spare = rng.within(0, 5);
+        let head = [total - spare, total + spare, members.len() as i64];
+        job.sets.extend(head.map(|word| word as i32));
+        job.sets.extend(members.iter().map(|y| *y as i32));
+    }
+    job
 }

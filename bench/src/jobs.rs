@@ -5,17 +5,19 @@ use second::job::{
 };
 use second::raw_job::RawJob;
 use second::rng::Rng;
+use second::sets::{MAX_SETS, TOTAL_BOUND};
 
 /// The words of a window.
 const WINDOW_WORDS: usize = EVENT_WORDS - 1;
 
-/// A job of one cage, empty at first and with cover 1, from its windows.
+/// A job of one cage, empty at first and with cover 1, and no set, from its windows.
 pub fn job(limits: (i32, i32), horizon: i64, windows: Vec<i32>, lags: Vec<i32>) -> RawJob {
     RawJob {
         horizon: horizon as i32,
         cages: vec![limits.0, limits.1, 0, 1],
         windows: in_cage_0(&windows),
         lags,
+        sets: Vec::new(),
         amount_bound: AMOUNT_BOUND,
     }
 }
@@ -42,6 +44,19 @@ pub fn in_eight_cages(job: &RawJob) -> RawJob {
     let shared = job.events().div_ceil(MAX_CAGES);
     for (event, words) in job.windows.chunks_exact_mut(EVENT_WORDS).enumerate() {
         words[WINDOW_WORDS] = (event / shared) as i32;
+    }
+    job
+}
+
+/// The same job with 16 sets of all its events and totals as far off as they
+/// can be.
+pub fn with_idle_sets(job: &RawJob) -> RawJob {
+    let mut job = job.clone();
+    let events = job.events() as i32;
+    let bound = TOTAL_BOUND as i32;
+    for _ in 0..MAX_SETS {
+        job.sets.extend([-bound, bound, events]);
+        job.sets.extend(0..events);
     }
     job
 }

@@ -43,8 +43,10 @@ fn main() {
         &jobs::silent(),
         Some(0.142),
     );
+    let sets = jobs::with_idle_sets(&jobs::silent());
+    time_plan("plan: the same, 16 sets of all events", &sets, None);
     let tight = jobs::tight();
-    time_plan("plan: the same, tight limits", &tight, None);
+    time_plan("plan: the silent round, tight limits", &tight, None);
     let split = jobs::in_eight_cages(&tight);
     time_plan("plan: the same, in eight cages", &split, None);
 
@@ -98,6 +100,9 @@ fn main() {
     time_plan("plan: the same, cover 0", &later, None);
     let split = jobs::in_eight_cages(&open);
     time_plan("plan: the same, cover 1, eight cages", &split, None);
+    let totals = families::contract_totals();
+    time_plan("plan: contract totals, 16 sets", &totals, None);
+    time_read("read: its list", &totals);
 }
 
 /// The time that a call alone took.
