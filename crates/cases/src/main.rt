@@ -1,6 +1,6 @@
 // Runs the cases that standard input holds, one after the other, and prints each with its words.
 // A case is a line that names it, with a number sign in front, then numbers in the layout of a stream's record (`second/README.md`):
-// 1 planner or 2 reader, H, the words of the cage table, of the window table, of the lag table, of the buffer or list; then these words.
+// 1 planner or 2 reader, H, the words of the cage table, of the window table, of the lag table, of the set table, of the buffer or list; then these words.
 mod print;
 
 use print::judged;
@@ -46,9 +46,16 @@ fn copy(from: &[i32], start: usize, to: &mut [i32])
 }
 
 // The call itself. What the planner writes is printed as the list, then what it leaves as it was, then what the reader says of that list.
-fn call(numbers: &[i32; 1030], cages: &[i32], table: &mut [i32], lags: &[i32], list: &mut [i32]) {
+fn call(
+    numbers: &[i32; 1030],
+    cages: &[i32],
+    table: &mut [i32],
+    lags: &[i32],
+    sets: &[i32],
+    list: &mut [i32],
+) {
     if numbers[0] == 1 {
-        let checked = reservoir::plan_and_read(numbers[1], cages, table, lags, list);
+        let checked = reservoir::plan_and_read(numbers[1], cages, table, lags, sets, list);
         let answer = checked.answer;
         let judgement = checked.judgement;
         let length = planned(answer);
@@ -61,45 +68,50 @@ fn call(numbers: &[i32; 1030], cages: &[i32], table: &mut [i32], lags: &[i32], l
         judged(judgement);
         return;
     }
-    let judgement = checker::check(numbers[1], cages, table, lags, list);
+    let judgement = checker::check(numbers[1], cages, table, lags, sets, list);
     judged(judgement);
     windows(table);
     line(b"list", list);
 }
 
-// A case's four tables, cut out of its numbers.
+// A case's five tables, cut out of its numbers.
 fn cut(
     numbers: &[i32; 1030],
     cages: &mut [i32],
     table: &mut [i32],
     lags: &mut [i32],
+    sets: &mut [i32],
     list: &mut [i32],
 )
-    requires { ⌜ 6 + length (now cages) + length (now table) + length (now lags) + length (now list) ≤ 1030 ⌝ }
+    requires { ⌜ 7 + length (now cages) + length (now table) + length (now lags) + length (now sets) + length (now list) ≤ 1030 ⌝ }
 {
-    let w = 6 + cages.len();
+    let w = 7 + cages.len();
     let g = w + table.len();
-    let b = g + lags.len();
-    copy(numbers, 6, cages);
+    let s = g + lags.len();
+    let b = s + sets.len();
+    copy(numbers, 7, cages);
     copy(numbers, w, table);
     copy(numbers, g, lags);
+    copy(numbers, s, sets);
     copy(numbers, b, list);
-    call(numbers, cages, table, lags, list);
+    call(numbers, cages, table, lags, sets, list);
 }
 
-// A case of n numbers, which has to be its header and four tables that fit the ones lent here.
+// A case of n numbers, which has to be its header and five tables that fit the ones lent here.
 fn sized(
     numbers: &[i32; 1030],
     n: usize,
     cages: &mut [i32],
     table: &mut [i32],
     lags: &mut [i32],
+    sets: &mut [i32],
     list: &mut [i32],
 ) -> bool {
     let c = size(numbers[2]);
     let w = size(numbers[3]);
     let g = size(numbers[4]);
-    let b = size(numbers[5]);
+    let s = size(numbers[5]);
+    let b = size(numbers[6]);
     if cages.len() < c {
         return false;
     }
@@ -109,13 +121,16 @@ fn sized(
     if lags.len() < g {
         return false;
     }
+    if sets.len() < s {
+        return false;
+    }
     if list.len() < b {
         return false;
     }
     if 1030 < n {
         return false;
     }
-    if n != 6 + c + w + g + b {
+    if n != 7 + c + w + g + s + b {
         return false;
     }
     cut(
@@ -123,6 +138,7 @@ fn sized(
         &mut cages[..c],
         &mut table[..w],
         &mut lags[..g],
+        &mut sets[..s],
         &mut list[..b],
     );
     true
@@ -140,8 +156,17 @@ fn case(name: &[u8], words: &[u8]) {
     let mut cages = [0i32; 40];
     let mut table = [0i32; 360];
     let mut lags = [0i32; 800];
+    let mut sets = [0i32; 1200];
     let mut list = [0i32; 1000];
-    if !sized(&numbers, n, &mut cages, &mut table, &mut lags, &mut list) {
+    if !sized(
+        &numbers,
+        n,
+        &mut cages,
+        &mut table,
+        &mut lags,
+        &mut sets,
+        &mut list,
+    ) {
         say(b"not a case\n");
     }
 }

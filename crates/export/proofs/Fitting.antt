@@ -1,4 +1,4 @@
--- Every number of a reply is at most 1,000,000: a place is that of an event, a lag or a slip, and a list has fewer slips than words.
+-- Every number of a reply is at most 1,000,000: a place is that of a cage, an event, a lag, a set or a slip, and a list has fewer slips than words.
 -- Assumes nothing.
 use mathlib.Core.Path.{_≡_, refl}
 use mathlib.Core.Bool.{Bool, true, false, cond, _&&_}
@@ -11,14 +11,14 @@ use lib.ListN.{length}
 use lib.Signed.{leZ}
 use Rattle.integers.specs.Range.{eqZ}
 use Rattle.integers.proofs.Tests.{true-is, and-out}
-use Rattle.model.specs.Job.{Windows, windows, widest, cage-at, cages, Job, events}
+use Rattle.model.specs.Job.{Windows, windows, widest, cage-at, cages, Job, events, begun}
 use Rattle.model.specs.Rules.{own-end, bound, effect, is-narrowing}
 use Rattle.model.specs.Slips.{Explanation, slip-length, premise-count, slip-at, rule-of, target-of}
 use Rattle.model.specs.Rounds.{Verdict, settled, conflict, stopped, still-open}
-use Rattle.model.specs.Questions.{Check, pass, refuse, _then_, ask, each, horizon-right, cages-whole, limits-right, stock-right, cover-right, events-whole, times-right, heights-right, cage-right, lags-whole, lag-events, lag-differs, lag-in-range, room-right, cage-questions, window-questions, lag-questions, own-questions, questions}
+use Rattle.model.specs.Questions.{Check, pass, refuse, _then_, ask, each, horizon-right, cages-whole, limits-right, stock-right, cover-right, events-whole, times-right, heights-right, cage-right, lags-whole, lag-events, lag-differs, lag-in-range, set-whole, members-right, totals-right, room-right, cage-questions, window-questions, lag-questions, set-questions, own-questions, questions}
 use Rattle.model.specs.Planner.{refused, done, Outcome, plan}
 use Rattle.model.specs.Reader.{whole, reading, names, all-true, narrowed, is-conflict, gives, slip-questions, applied, Read, read-from, stop-of, counted, marked, ends-right, read-all, accepted, judged, check}
-use Rattle.model.proofs.Questions.{then-out, ask-out, asked}
+use Rattle.model.proofs.Questions.{then-out, ask-out, begun-most, asked}
 use Rattle.model.proofs.Reading.{slip-ends}
 use Rattle.model.proofs.Rounds.{slips-room}
 use Rattle.model.proofs.Refusals.{run-in, plan-refused, plan-planned, run-finished, check-refused, check-judged}
@@ -99,13 +99,23 @@ lag-low n ws =
     ties : ask 7 (lags-whole ws) ≡ pass → 0 + length ws / 3 ≤ 1000000
     ties e = let k = few 7 (length ws) 768 (eqb (length ws % 3) 0) (omega arith) e in omega arith
 
+set-low : (n : ℕ) (ws : List ℤ) → Low (set-questions n ws)
+set-low n ws =
+    then-low (each 31 (set-whole ws) 0 (begun ws 17)) _ (each-low 31 (set-whole ws) 0 (begun ws 17) (omega arith) some)
+    (λ _. then-low (each 32 (members-right n ws) 0 (begun ws 17)) _ (each-low 32 (members-right n ws) 0 (begun ws 17) (omega arith) some)
+    (λ _. each-low 33 (totals-right ws) 0 (begun ws 17) (omega arith) some))
+  where
+    some : 0 + begun ws 17 ≤ 1000000
+    some = omega (arith, begun-most ws 17)
+
 module _ (j : Job) where
   questions-low : (room : ℕ) → Low (questions j room)
   unfolding questions own-questions
   questions-low room =
       then-low (own-questions j) (ask 11 (room-right room))
       (then-low (cage-questions (j .horizon) (j .cage-table)) _ (cage-low (j .horizon) (j .cage-table))
-      (λ _. then-low (window-questions (j .horizon) (cages j) (j .window-table)) _ (window-low (j .horizon) (cages j) (j .window-table)) (λ _. lag-low (events j) (j .lag-table))))
+      (λ _. then-low (window-questions (j .horizon) (cages j) (j .window-table)) _ (window-low (j .horizon) (cages j) (j .window-table))
+      (λ _. then-low (lag-questions (events j) (j .lag-table)) _ (lag-low (events j) (j .lag-table)) (λ _. set-low (events j) (j .set-table)))))
       (λ _. ask-low 11 (room-right room) (omega arith))
 
   -- ---- the planner

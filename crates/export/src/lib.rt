@@ -106,15 +106,16 @@ pub extern "C" fn orthmuzi_plan(
     cages: &[i32],
     table: &mut [i32],
     lags: &[i32],
+    sets: &[i32],
     buffer: &mut [i32],
     words: &mut [i32],
 ) -> i32
-    ensures number { λ r. ⌜ r ≡ pos (numbers-of (plan (call h (now (cages .entry)) (now (table .entry)) (now (lags .entry))) (now (buffer .entry)) .reply) .number) ⌝ }
-    ensures answer { λ r. ⌜ now (words .exit) ≡ told (numbers-of (plan (call h (now (cages .entry)) (now (table .entry)) (now (lags .entry))) (now (buffer .entry)) .reply)) (now (words .entry)) ⌝ }
-    ensures windows { λ r. ⌜ now (table .exit) ≡ plan (call h (now (cages .entry)) (now (table .entry)) (now (lags .entry))) (now (buffer .entry)) .table ⌝ }
-    ensures slips { λ r. ⌜ now (buffer .exit) ≡ plan (call h (now (cages .entry)) (now (table .entry)) (now (lags .entry))) (now (buffer .entry)) .buffer ⌝ }
+    ensures number { λ r. ⌜ r ≡ pos (numbers-of (plan (call h (now (cages .entry)) (now (table .entry)) (now (lags .entry)) (now (sets .entry))) (now (buffer .entry)) .reply) .number) ⌝ }
+    ensures answer { λ r. ⌜ now (words .exit) ≡ told (numbers-of (plan (call h (now (cages .entry)) (now (table .entry)) (now (lags .entry)) (now (sets .entry))) (now (buffer .entry)) .reply)) (now (words .entry)) ⌝ }
+    ensures windows { λ r. ⌜ now (table .exit) ≡ plan (call h (now (cages .entry)) (now (table .entry)) (now (lags .entry)) (now (sets .entry))) (now (buffer .entry)) .table ⌝ }
+    ensures slips { λ r. ⌜ now (buffer .exit) ≡ plan (call h (now (cages .entry)) (now (table .entry)) (now (lags .entry)) (now (sets .entry))) (now (buffer .entry)) .buffer ⌝ }
 {
-    let a = plan(h, cages, table, lags, buffer);
+    let a = plan(h, cages, table, lags, sets, buffer);
     tell(planned(a), words)
 }
 
@@ -126,13 +127,14 @@ pub extern "C" fn orthmuzi_read(
     cages: &[i32],
     table: &mut [i32],
     lags: &[i32],
+    sets: &[i32],
     list: &[i32],
     words: &mut [i32],
 ) -> i32
-    ensures number { λ r. ⌜ r ≡ pos (numbers-of (check (call h (now (cages .entry)) (now (table .entry)) (now (lags .entry))) (now (list .entry)) .reply) .number) ⌝ }
-    ensures answer { λ r. ⌜ now (words .exit) ≡ told (numbers-of (check (call h (now (cages .entry)) (now (table .entry)) (now (lags .entry))) (now (list .entry)) .reply)) (now (words .entry)) ⌝ }
-    ensures windows { λ r. ⌜ now (table .exit) ≡ check (call h (now (cages .entry)) (now (table .entry)) (now (lags .entry))) (now (list .entry)) .table ⌝ }
+    ensures number { λ r. ⌜ r ≡ pos (numbers-of (check (call h (now (cages .entry)) (now (table .entry)) (now (lags .entry)) (now (sets .entry))) (now (list .entry)) .reply) .number) ⌝ }
+    ensures answer { λ r. ⌜ now (words .exit) ≡ told (numbers-of (check (call h (now (cages .entry)) (now (table .entry)) (now (lags .entry)) (now (sets .entry))) (now (list .entry)) .reply)) (now (words .entry)) ⌝ }
+    ensures windows { λ r. ⌜ now (table .exit) ≡ check (call h (now (cages .entry)) (now (table .entry)) (now (lags .entry)) (now (sets .entry))) (now (list .entry)) .table ⌝ }
 {
-    let v = check(h, cages, table, lags, list);
+    let v = check(h, cages, table, lags, sets, list);
     tell(judged(v), words)
 }

@@ -244,7 +244,7 @@ events-differ n (negsuc a) (pos b) s t u e = absurd s
 events-differ n (negsuc a) (negsuc b) s t u e = absurd s
 
 -- At most k sets of k begin.
-begun-most : (ws : List ℤ) (k : ℕ) → begun ws k ≤ k
+pub begun-most : (ws : List ℤ) (k : ℕ) → begun ws k ≤ k
 unfolding begun
 begun-most ws zero = omega arith
 begun-most ws (suc k) = go (ltb (set-begin ws k) (length ws)) (begun-most ws k)

@@ -15,7 +15,7 @@ use Rattle.model.specs.Print.{printed}
 use Rattle.model.specs.Program.{slip-room, answered, Told}
 use Rattle.scanner.specs.Scanner.{state, finished}
 use Rattle.tables.specs.Job.{call}
-use Rattle.scanner.specs.Layout.{at, windows-at, lags-at, job-in, Room, Handed}
+use Rattle.scanner.specs.Layout.{at, windows-at, lags-at, sets-at, job-in, Room, Handed}
 use Rattle.scanner.specs.declared.scan.Scan.{Scan}
 use Rattle.scanner.specs.declared.layout.Sizes.{Sizes}
 use Rattle.scanner.specs.declared.layout.Layout.{Layout}
@@ -31,8 +31,8 @@ pub told : {s : Scan} {t : List ℤ} {buffer : List ℕ} {n : ℕ} → Heard s t
 told h p = record { pieces = h .pieces; all = h .all; prints = p .are ∙ ap answered (h .says) }
 
 -- The planner's reply and its windows, printed.
-pub planned-text : (cs w l : List ℤ) {h h′ : ℤ} {reply : Reply} {u : List ℤ} {buffer : List ℕ} {n : ℕ} → h′ ≡ h → reply ≡ plan (call h′ cs w l) slip-room .reply → u ≡ plan (call h′ cs w l) slip-room .table → Printed buffer n (printed reply u) → Printed buffer n (answered (parsed (call h cs w l)))
-planned-text cs w l e f g p = rw (← e) (printed-as (rw (f, g)) p)
+pub planned-text : (cs w l g : List ℤ) {h h′ : ℤ} {reply : Reply} {u : List ℤ} {buffer : List ℕ} {n : ℕ} → h′ ≡ h → reply ≡ plan (call h′ cs w l g) slip-room .reply → u ≡ plan (call h′ cs w l g) slip-room .table → Printed buffer n (printed reply u) → Printed buffer n (answered (parsed (call h cs w l g)))
+planned-text cs w l g e f k p = rw (← e) (printed-as (rw (f, k)) p)
 
 -- ---- what is handed over
 
@@ -51,12 +51,13 @@ module _ {l : Layout} {t : List ℤ} {j : Parsed Job} (handed : Handed l t j) wh
 
 -- The job in a table, from its words.
 pub job-at : (t : List ℤ) (s : Sizes) {h : ℤ} {w : List ℤ} {first lags : ℕ} → h ≡ at t 0 → first ≡ windows-at s → lags ≡ lags-at s → w ≡ take (lags - first) (drop first t) →
-    parsed (call h (take (2 + 4 * s .cages - 2) (drop 2 t)) w (take (lags + 3 * s .lags - lags) (drop lags t))) ≡ parsed (job-in t s)
+    parsed (call h (take (2 + 4 * s .cages - 2) (drop 2 t)) w (take (lags + 3 * s .lags - lags) (drop lags t)) (take (lags + 3 * s .lags + 1 + s .words - (lags + 3 * s .lags + 1)) (drop (lags + 3 * s .lags + 1) t))) ≡ parsed (job-in t s)
 job-at t s e f g k =
     let a : 2 + 4 * s .cages - 2 ≡ 4 * s .cages = omega arith in
     let b : lags-at s - windows-at s ≡ 5 * s .events = omega arith in
     let c : lags-at s + 3 * s .lags - lags-at s ≡ 3 * s .lags = omega arith in
-    rw (e, k, f, g, a, b, c)
+    let d : sets-at s + s .words - sets-at s ≡ s .words = omega arith in
+    rw (e, k, f, g, a, b, c, d)
 
 -- ---- words copied
 

@@ -48,12 +48,19 @@ fn copy(from: &[i32], to: &mut [i32])
 }
 
 // A job planned in a slip room of 16,000 words, and its answer put into `out`.
-fn planned(h: i32, cages: &[i32], windows: &mut [i32], lags: &[i32], out: &mut [u8]) -> usize
+fn planned(
+    h: i32,
+    cages: &[i32],
+    windows: &mut [i32],
+    lags: &[i32],
+    sets: &[i32],
+    out: &mut [u8],
+) -> usize
     requires { ⌜ (length (now windows) ≤ 320) × (8192 ≤ length (now out)) ⌝ }
-    ensures { λ r. ⌜ Printed (now (out .exit)) r (answered (parsed (call h (now (cages .entry)) (now (windows .entry)) (now (lags .entry))))) ⌝ }
+    ensures { λ r. ⌜ Printed (now (out .exit)) r (answered (parsed (call h (now (cages .entry)) (now (windows .entry)) (now (lags .entry)) (now (sets .entry))))) ⌝ }
 {
     let mut room = [0i32; 16000];
-    let a = plan(h, cages, windows, lags, &mut room);
+    let a = plan(h, cages, windows, lags, sets, &mut room);
     report(a, windows, out)
 }
 
@@ -67,9 +74,18 @@ fn table_planned(s: Sizes, table: &[i32], space: &mut [i32], out: &mut [u8]) -> 
     let words = 5 * s.events;
     let lags = first + words;
     let end = lags + 3 * s.lags;
+    let sets = end + 1;
+    let last = sets + s.words;
     let windows = &mut space[..words];
     copy(&table[first..lags], windows);
-    planned(table[0], &table[2..behind], windows, &table[lags..end], out)
+    planned(
+        table[0],
+        &table[2..behind],
+        windows,
+        &table[lags..end],
+        &table[sets..last],
+        out,
+    )
 }
 
 // The end of the text: what the program prints, put into `out`.
@@ -104,7 +120,7 @@ fn read_some(s: Scan, table: &mut [i32]) -> Taken
 
 // Reads to the end of the input. A proved loop has to end, and nothing says that the input does: it counts its turns down from a number that no run uses up.
 fn read_all(table: &mut [i32]) -> Scan
-    requires { ⌜ 1124 ≤ length (now table) ⌝ }
+    requires { ⌜ 2197 ≤ length (now table) ⌝ }
     ensures { λ r. ⌜ Heard r (now (table .exit)) ⌝ }
 {
     let mut scan = scanner::start();

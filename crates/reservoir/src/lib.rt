@@ -71,21 +71,22 @@ pub fn plan_and_read(
     cages: &[i32],
     table: &mut [i32],
     lags: &[i32],
+    sets: &[i32],
     buffer: &mut [i32],
 ) -> Checked
     ensures { λ r. ⌜
-        Assured (call h (now (cages .entry)) (now (table .entry)) (now (lags .entry))) (now (buffer .entry)) (now (table .exit)) (now (buffer .exit)) r
+        Assured (call h (now (cages .entry)) (now (table .entry)) (now (lags .entry)) (now (sets .entry))) (now (buffer .entry)) (now (table .exit)) (now (buffer .exit)) r
         ⌝ }
 {
     let n = table.len();
     let mut copy = [0i32; 320];
     keep(table, &mut copy);
-    let answer = plan(h, cages, table, lags, buffer);
+    let answer = plan(h, cages, table, lags, sets, buffer);
     let w = list_of(answer);
     match w {
         Written::Nothing(r) => unread(answer, r),
         Written::Listed(len) => {
-            let judgement = check(h, cages, &mut copy[..n], lags, &buffer[..len]);
+            let judgement = check(h, cages, &mut copy[..n], lags, sets, &buffer[..len]);
             Checked {
                 answer: answer,
                 judgement: judgement,

@@ -71,16 +71,17 @@ fn call(
     cages: &[i32],
     table: &mut [i32],
     lags: &[i32],
+    sets: &[i32],
     list: &mut [i32],
 ) -> usize
     requires { ⌜ at ≤ 65536 ⌝ }
     ensures { λ r. ⌜ r ≤ 65536 ⌝ }
 {
     if kind == 1 {
-        let answer = propagator::plans::plan(h, cages, table, lags, list);
+        let answer = propagator::plans::plan(h, cages, table, lags, sets, list);
         return planned(out, at, answer);
     }
-    let judgement = checker::check(h, cages, table, lags, list);
+    let judgement = checker::check(h, cages, table, lags, sets, list);
     judged(out, at, judgement)
 }
 
@@ -92,12 +93,13 @@ pub fn answer(
     cages: &[i32],
     table: &mut [i32],
     lags: &[i32],
+    sets: &[i32],
     list: &mut [i32],
 ) -> usize
     requires { ⌜ at ≤ 65536 ⌝ }
     ensures { λ r. ⌜ r ≤ 65536 ⌝ }
 {
-    let o = call(out, at, kind, h, cages, table, lags, list);
+    let o = call(out, at, kind, h, cages, table, lags, sets, list);
     let o = number(out, o, checksum(table));
     let o = number(out, o, checksum(list));
     put(out, o, b'\n')

@@ -65,26 +65,32 @@ pub fn fill(piece: &mut [u8; 65536], from: Input, table: &mut [i32]) -> Filled {
     Filled::All(input)
 }
 
-// A record's four tables, one after the other.
-pub fn fill_four(
+// Two tables, one after the other.
+fn fill_two(piece: &mut [u8; 65536], from: Input, first: &mut [i32], second: &mut [i32]) -> Filled {
+    let filled = fill(piece, from, first);
+    let Filled::All(input) = filled else {
+        return Filled::Cut;
+    };
+    fill(piece, input, second)
+}
+
+// A record's five tables, one after the other.
+pub fn fill_five(
     piece: &mut [u8; 65536],
     from: Input,
     first: &mut [i32],
     second: &mut [i32],
     third: &mut [i32],
     fourth: &mut [i32],
+    fifth: &mut [i32],
 ) -> Filled {
-    let filled = fill(piece, from, first);
+    let filled = fill_two(piece, from, first, second);
     let Filled::All(input) = filled else {
         return Filled::Cut;
     };
-    let filled = fill(piece, input, second);
+    let filled = fill_two(piece, input, third, fourth);
     let Filled::All(input) = filled else {
         return Filled::Cut;
     };
-    let filled = fill(piece, input, third);
-    let Filled::All(input) = filled else {
-        return Filled::Cut;
-    };
-    fill(piece, input, fourth)
+    fill(piece, input, fifth)
 }

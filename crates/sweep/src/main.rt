@@ -1,5 +1,5 @@
 // Answers a stream of records, a line each, just as the second program's `answers` does. `.ci/run` compares the two on a large stream;
-// the stored `stdin` is `second stream 920 40 160`, in which the reader refuses by each of its numbers, and the two by every number that both ask.
+// the stored `stdin` is `second stream 2008 40 160`, in which the reader refuses by every number that there is.
 // A record beyond the limits, an unknown one, or a stream cut short ends the program with a line that says so.
 mod answers;
 mod input;
@@ -11,7 +11,7 @@ use input::Filled;
 use input::Input;
 use input::Next;
 use input::fill;
-use input::fill_four;
+use input::fill_five;
 use input::take_word;
 use lines::flush;
 use lines::text;
@@ -47,27 +47,28 @@ fn size(x: i32) -> usize {
     x as usize
 }
 
-// The four tables of a record, whose lengths are known to be within the limits.
+// The five tables of a record, whose lengths are known to be within the limits.
 fn record(
     piece: &mut [u8; 65536],
     out: &mut [u8; 65536],
     s: State,
     kind: i32,
-    head: &[i32; 5],
+    head: &[i32; 6],
     cages: &mut [i32],
     table: &mut [i32],
     lags: &mut [i32],
+    sets: &mut [i32],
     list: &mut [i32],
 ) -> State
     requires { ⌜ s .at ≤ 65536 ⌝ }
     ensures { λ r. ⌜ r .at ≤ 65536 ⌝ }
 {
     let input = s.input;
-    let filled = fill_four(piece, input, cages, table, lags, list);
+    let filled = fill_five(piece, input, cages, table, lags, sets, list);
     let Filled::All(input) = filled else {
         return stop(out, s, b"the stream is cut short\n");
     };
-    let o = answer(out, s.at, kind, head[0], cages, table, lags, list);
+    let o = answer(out, s.at, kind, head[0], cages, table, lags, sets, list);
     State {
         input: input,
         at: o,
@@ -81,10 +82,11 @@ fn sized(
     out: &mut [u8; 65536],
     s: State,
     kind: i32,
-    head: &[i32; 5],
+    head: &[i32; 6],
     cages: &mut [i32],
     table: &mut [i32],
     lags: &mut [i32],
+    sets: &mut [i32],
     list: &mut [i32],
 ) -> State
     requires { ⌜ s .at ≤ 65536 ⌝ }
@@ -102,7 +104,11 @@ fn sized(
     if lags.len() < g {
         return stop(out, s, b"a lag table is too long\n");
     }
-    let b = size(head[4]);
+    let t = size(head[4]);
+    if sets.len() < t {
+        return stop(out, s, b"a set table is too long\n");
+    }
+    let b = size(head[5]);
     if list.len() < b {
         return stop(out, s, b"a list is too long\n");
     }
@@ -115,6 +121,7 @@ fn sized(
         &mut cages[..c],
         &mut table[..w],
         &mut lags[..g],
+        &mut sets[..t],
         &mut list[..b],
     )
 }
@@ -130,6 +137,7 @@ fn step(
     cages: &mut [i32; 40],
     table: &mut [i32; 360],
     lags: &mut [i32; 800],
+    sets: &mut [i32; 1200],
     list: &mut [i32; 20000],
 ) -> State
     requires { ⌜ s .at ≤ 65536 ⌝ }
@@ -146,7 +154,7 @@ fn step(
     if !is_call(kind) {
         return stop(out, s, b"an unknown kind of record\n");
     }
-    let mut head = [0i32; 5];
+    let mut head = [0i32; 6];
     let filled = fill(piece, input, &mut head);
     let Filled::All(input) = filled else {
         return stop(out, s, b"the stream is cut short\n");
@@ -156,7 +164,7 @@ fn step(
         at: s.at,
         more: true,
     };
-    sized(piece, out, s, kind, &head, cages, table, lags, list)
+    sized(piece, out, s, kind, &head, cages, table, lags, sets, list)
 }
 
 fn main() {
@@ -165,6 +173,7 @@ fn main() {
     let mut cages = [0i32; 40];
     let mut table = [0i32; 360];
     let mut lags = [0i32; 800];
+    let mut sets = [0i32; 1200];
     let mut list = [0i32; 20000];
     let mut s = State {
         input: Input { at: 0, end: 0 },
@@ -180,6 +189,7 @@ fn main() {
             &mut cages,
             &mut table,
             &mut lags,
+            &mut sets,
             &mut list,
         );
         turns -= 1;

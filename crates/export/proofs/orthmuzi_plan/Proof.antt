@@ -22,7 +22,7 @@ tell-requires c κs =
     let a = c .before .before .before .before .plan .ensures .0 in
     let same = toZ-ofZ (s .fits .h) in
     rw (c .before .planned .ensures, a, same)
-    (plan-small (call (s .args .h) (s .args .cages .now) (s .args .table .now) (s .args .lags .now)) (s .args .buffer .now))
+    (plan-small (call (s .args .h) (s .args .cages .now) (s .args .table .now) (s .args .lags .now) (s .args .sets .now)) (s .args .buffer .now))
 
 same-length : tie.Need-same-length
 same-length c = search needs
@@ -40,7 +40,7 @@ returns c =
     let p = c .before .before .before .before .before .before .plan .ensures in
     let a = c .before .before .before .planned .ensures
     ∙ ap numbers-of (rw same at (p .0)) in
-    let small = plan-small (call (s .args .h) (s .args .cages .now) (s .args .table .now) (s .args .lags .now)) (s .args .buffer .now) in (
+    let small = plan-small (call (s .args .h) (s .args .cages .now) (s .args .table .now) (s .args .lags .now) (s .args .sets .now)) (s .args .buffer .now) in (
       returned _ (rw a at (c .before .tell .ensures .0)) (small .number),
       (
         rw a at (c .before .tell .ensures .1),

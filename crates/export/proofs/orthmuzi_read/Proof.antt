@@ -22,7 +22,7 @@ tell-requires c κs =
     let a = c .before .before .before .check .ensures .0 in
     let same = toZ-ofZ (s .fits .h) in
     rw (c .before .judged .ensures, a, same)
-    (check-small (call (s .args .h) (s .args .cages .now) (s .args .table .now) (s .args .lags .now)) (s .args .list .now))
+    (check-small (call (s .args .h) (s .args .cages .now) (s .args .table .now) (s .args .lags .now) (s .args .sets .now)) (s .args .list .now))
 
 same-length : tie.Need-same-length
 same-length c = search needs
@@ -37,7 +37,7 @@ returns c =
     let p = c .before .before .before .before .before .check .ensures in
     let a = c .before .before .before .judged .ensures
     ∙ ap numbers-of (rw same at (p .0)) in
-    let small = check-small (call (s .args .h) (s .args .cages .now) (s .args .table .now) (s .args .lags .now)) (s .args .list .now) in (
+    let small = check-small (call (s .args .h) (s .args .cages .now) (s .args .table .now) (s .args .lags .now) (s .args .sets .now)) (s .args .list .now) in (
       returned _ (rw a at (c .before .tell .ensures .0)) (small .number),
       (
         rw a at (c .before .tell .ensures .1),

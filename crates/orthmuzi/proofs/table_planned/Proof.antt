@@ -33,6 +33,12 @@ mul-end c = search needs
 add-end : tie.Need-add-end
 add-end c = search needs
 
+add-sets : tie.Need-add-sets
+add-sets c = search needs
+
+add-last : tie.Need-add-last
+add-last c = search needs
+
 slice-relend-prefix-windows : tie.Need-slice-relend-prefix-windows
 slice-relend-prefix-windows c = search needs
 
@@ -78,10 +84,22 @@ part-planned-start-2 c = search needs
 part-planned-end-2 : tie.Need-part-planned-end-2
 part-planned-end-2 c = search needs
 
+mul-planned-2 : tie.Need-mul-planned-2
+mul-planned-2 c = search needs
+
+sub-planned-3 : tie.Need-sub-planned-3
+sub-planned-3 c = search needs
+
+part-planned-start-3 : tie.Need-part-planned-start-3
+part-planned-start-3 c = search needs
+
+part-planned-end-3 : tie.Need-part-planned-end-3
+part-planned-end-3 c = search needs
+
 planned-requires : tie.Need-planned-requires
 planned-requires c κs =
-    let k = c .before .before .before .before .before in
-    let a = k .before .before .before .before .before .before .before .before .args in
+    let k = c .before .before .before .before .before .before in
+    let a = k .before .before .before .before .before .before .before .before .before .args in
     (omega (arith, k .copy .kept .1 .0, length-take (5 * a .s .events) (a .space .now)), search needs)
 
 same-length : tie.Need-same-length
@@ -93,8 +111,8 @@ same-length-2 c = search needs
 returns : tie.Need-returns
 returns c =
     let k = c .before .before .before in
-    let d = k .before .before .before .before .before .before in
-    let t = d .before .before .before .before .before .before .before .before .args in
+    let d = k .before .before .before .before .before .before .before in
+    let t = d .before .before .before .before .before .before .before .before .before .args in
     answered-as
     (job-at (t .table .now) (t .s) (back32 (at (t .table .now) 0) (search)) (omega arith) (omega arith) (d .copy .ensures))
     (k .planned .ensures)
@@ -110,6 +128,8 @@ table-planned-spec =
     add-lags
     mul-end
     add-end
+    add-sets
+    add-last
     slice-relend-prefix-windows
     slice-aggregate-windows
     mul-copy
@@ -125,6 +145,10 @@ table-planned-spec =
     sub-planned-2
     part-planned-start-2
     part-planned-end-2
+    mul-planned-2
+    sub-planned-3
+    part-planned-start-3
+    part-planned-end-3
     planned-requires
     same-length
     same-length-2

@@ -36,7 +36,7 @@ array-borrow-prefix-copy c =
     let s = l .before .before .before .before .before .before .before .before .before in
     let a = s .args in
     let same = toZ-ofZ (s .fits .h) in
-    let k = few (call (a .h) (a .cages .now) (a .table .now) (a .lags .now)) (a .buffer .now) (p .result) (rw same at (p .ensures .0)) (rw same at (p .ensures .1 .0)) (rw same at (p .ensures .1 .1)) (c .before .w2 .given .0 .0) (sym (l .list-of .ensures) ∙ c .before .w2 .given .1) in
+    let k = few (call (a .h) (a .cages .now) (a .table .now) (a .lags .now) (a .sets .now)) (a .buffer .now) (p .result) (rw same at (p .ensures .0)) (rw same at (p .ensures .1 .0)) (rw same at (p .ensures .1 .1)) (c .before .w2 .given .0 .0) (sym (l .list-of .ensures) ∙ c .before .w2 .given .1) in
     omega (arith, l .before .before .before .before .before .before .keep .ensures .whole)
 
 slice-aggregate-check : tie.Need-slice-aggregate-check
@@ -46,7 +46,7 @@ slice-aggregate-check c =
     let s = l .before .before .before .before .before .before .before .before .before in
     let a = s .args in
     let same = toZ-ofZ (s .fits .h) in
-    let k = few (call (a .h) (a .cages .now) (a .table .now) (a .lags .now)) (a .buffer .now) (p .result) (rw same at (p .ensures .0)) (rw same at (p .ensures .1 .0)) (rw same at (p .ensures .1 .1)) (c .before .before .w2 .given .0 .0) (sym (l .list-of .ensures) ∙ c .before .before .w2 .given .1) in
+    let k = few (call (a .h) (a .cages .now) (a .table .now) (a .lags .now) (a .sets .now)) (a .buffer .now) (p .result) (rw same at (p .ensures .0)) (rw same at (p .ensures .1 .0)) (rw same at (p .ensures .1 .1)) (c .before .before .w2 .given .0 .0) (sym (l .list-of .ensures) ∙ c .before .before .w2 .given .1) in
     sym (length-take-le _ _ (omega (arith, l .before .before .before .before .before .before .keep .ensures .whole)))
 
 slice-reshare-prefix-check : tie.Need-slice-reshare-prefix-check
@@ -56,7 +56,7 @@ slice-reshare-prefix-check c =
     let s = l .before .before .before .before .before .before .before .before .before in
     let a = s .args in
     let same = toZ-ofZ (s .fits .h) in
-    fits (call (a .h) (a .cages .now) (a .table .now) (a .lags .now)) (a .buffer .now) (p .result) (rw same at (p .ensures .0)) (rw same at (p .ensures .1 .0)) (rw same at (p .ensures .1 .1)) (c .before .before .w2 .given .0 .0) (sym (l .list-of .ensures) ∙ c .before .before .w2 .given .1)
+    fits (call (a .h) (a .cages .now) (a .table .now) (a .lags .now) (a .sets .now)) (a .buffer .now) (p .result) (rw same at (p .ensures .0)) (rw same at (p .ensures .1 .0)) (rw same at (p .ensures .1 .1)) (c .before .before .w2 .given .0 .0) (sym (l .list-of .ensures) ∙ c .before .before .w2 .given .1)
 
 slice-aggregate-check-2 : tie.Need-slice-aggregate-check-2
 slice-aggregate-check-2 c =
@@ -65,7 +65,7 @@ slice-aggregate-check-2 c =
     let s = l .before .before .before .before .before .before .before .before .before in
     let a = s .args in
     let same = toZ-ofZ (s .fits .h) in
-    sym (length-take-le _ _ (fits (call (a .h) (a .cages .now) (a .table .now) (a .lags .now)) (a .buffer .now) (p .result) (rw same at (p .ensures .0)) (rw same at (p .ensures .1 .0)) (rw same at (p .ensures .1 .1)) (c .before .before .before .w2 .given .0 .0) (sym (l .list-of .ensures) ∙ c .before .before .before .w2 .given .1)))
+    sym (length-take-le _ _ (fits (call (a .h) (a .cages .now) (a .table .now) (a .lags .now) (a .sets .now)) (a .buffer .now) (p .result) (rw same at (p .ensures .0)) (rw same at (p .ensures .1 .0)) (rw same at (p .ensures .1 .1)) (c .before .before .before .w2 .given .0 .0) (sym (l .list-of .ensures) ∙ c .before .before .before .w2 .given .1)))
 
 check-requires : tie.Need-check-requires
 check-requires c κs = search needs
@@ -83,7 +83,7 @@ returns c =
     let s = l .before .before .before .before .before .before .before .before .before in
     let a = s .args in
     let same = toZ-ofZ (s .fits .h) in
-    assured-unread (call (a .h) (a .cages .now) (a .table .now) (a .lags .now)) (a .buffer .now) (p .result) (rw same at (p .ensures .0)) (rw same at (p .ensures .1 .0)) (rw same at (p .ensures .1 .1)) (c .before .before .w .given .0 .0) (sym (l .list-of .ensures) ∙ c .before .before .w .given .1) (c .unread .result) (c .unread .ensures .0) (c .unread .ensures .1)
+    assured-unread (call (a .h) (a .cages .now) (a .table .now) (a .lags .now) (a .sets .now)) (a .buffer .now) (p .result) (rw same at (p .ensures .0)) (rw same at (p .ensures .1 .0)) (rw same at (p .ensures .1 .1)) (c .before .before .w .given .0 .0) (sym (l .list-of .ensures) ∙ c .before .before .w .given .1) (c .unread .result) (c .unread .ensures .0) (c .unread .ensures .1)
 
 same-length-3 : tie.Need-same-length-3
 same-length-3 c = search needs
@@ -99,7 +99,7 @@ returns-2 c =
     let s = l .before .before .before .before .before .before .before .before .before in
     let a = s .args in
     let same = toZ-ofZ (s .fits .h) in
-    let j = call (a .h) (a .cages .now) (a .table .now) (a .lags .now) in
+    let j = call (a .h) (a .cages .now) (a .table .now) (a .lags .now) (a .sets .now) in
     let len = c .before .before .before .before .before .w2 .given .0 .0 in
     let listed = sym (l .list-of .ensures) ∙ c .before .before .before .before .before .w2 .given .1 in
     let room = few j (a .buffer .now) (p .result) (rw same at (p .ensures .0)) (rw same at (p .ensures .1 .0)) (rw same at (p .ensures .1 .1)) len listed in

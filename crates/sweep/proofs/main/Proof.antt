@@ -6,10 +6,10 @@ use Rattle.sweep.proofs.main.Statement.{statement}
 use Rattle.sweep.proofs.main.Tie as tie
 
 abbrev Inv-loop : tie.InvT-loop
-Inv-loop piece₀ out₀ cages₀ table₀ lags₀ list₀ s₀ turns₀ piece out cages table lags list s turns = s .at ≤ 65536
+Inv-loop piece₀ out₀ cages₀ table₀ lags₀ sets₀ list₀ s₀ turns₀ piece out cages table lags sets list s turns = s .at ≤ 65536
 
 abbrev μ-loop : tie.MeasureT-loop
-μ-loop piece₀ out₀ cages₀ table₀ lags₀ list₀ s₀ turns₀ piece out cages table lags list s turns = turns
+μ-loop piece₀ out₀ cages₀ table₀ lags₀ sets₀ list₀ s₀ turns₀ piece out cages table lags sets list s turns = turns
 
 large-buffer-requires : tie.Need-large-buffer-requires Inv-loop μ-loop
 large-buffer-requires c κs = search needs

@@ -66,6 +66,21 @@ stop-requires-4 c κs = search needs
 returns-4 : tie.Need-returns-4
 returns-4 c = search needs
 
+element-copy-out-size-5 : tie.Need-element-copy-out-size-5
+element-copy-out-size-5 c = search needs
+
+size-requires-5 : tie.Need-size-requires-5
+size-requires-5 c κs = search needs
+
+slice-aggregate-stop-5 : tie.Need-slice-aggregate-stop-5
+slice-aggregate-stop-5 c = search needs
+
+stop-requires-5 : tie.Need-stop-requires-5
+stop-requires-5 c κs = search needs
+
+returns-5 : tie.Need-returns-5
+returns-5 c = search needs
+
 slice-relend-prefix-record : tie.Need-slice-relend-prefix-record
 slice-relend-prefix-record c = search needs
 
@@ -90,6 +105,12 @@ slice-relend-prefix-record-4 c = search needs
 slice-aggregate-record-4 : tie.Need-slice-aggregate-record-4
 slice-aggregate-record-4 c = sym (length-take-le _ _ (search needs))
 
+slice-relend-prefix-record-5 : tie.Need-slice-relend-prefix-record-5
+slice-relend-prefix-record-5 c = search needs
+
+slice-aggregate-record-5 : tie.Need-slice-aggregate-record-5
+slice-aggregate-record-5 c = sym (length-take-le _ _ (search needs))
+
 record-requires : tie.Need-record-requires
 record-requires c κs = search needs
 
@@ -105,8 +126,11 @@ same-length-3 c = search needs
 same-length-4 : tie.Need-same-length-4
 same-length-4 c = search needs
 
-returns-5 : tie.Need-returns-5
-returns-5 c = search needs
+same-length-5 : tie.Need-same-length-5
+same-length-5 c = search needs
+
+returns-6 : tie.Need-returns-6
+returns-6 c = search needs
 
 pub sized-spec : {M : Type 1} → statement M
 sized-spec =
@@ -132,6 +156,11 @@ sized-spec =
     slice-aggregate-stop-4
     stop-requires-4
     returns-4
+    element-copy-out-size-5
+    size-requires-5
+    slice-aggregate-stop-5
+    stop-requires-5
+    returns-5
     slice-relend-prefix-record
     slice-aggregate-record
     slice-relend-prefix-record-2
@@ -140,9 +169,12 @@ sized-spec =
     slice-aggregate-record-3
     slice-relend-prefix-record-4
     slice-aggregate-record-4
+    slice-relend-prefix-record-5
+    slice-aggregate-record-5
     record-requires
     same-length
     same-length-2
     same-length-3
     same-length-4
-    returns-5)
+    same-length-5
+    returns-6)
