@@ -1,4 +1,4 @@
--- The papers' cases with P (document 01: K1 to K10; document 02: cover, cages, sets): one listing of inputs and expected words, K1's text and what is printed of it too, one statement that the definitions give them, proved by computation.
+-- The papers' cases with P (document 01: K1 to K10; document 02: cover, cages, sets, the round limit): one listing of inputs and expected words, K1's text and what is printed of it too, one statement that the definitions give them, proved by computation.
 -- By its name it is checked before all other proofs: a definition that is changed is told first by the words that it gives.
 -- Assumes nothing.
 use mathlib.Core.Path.{_≡_, refl}
@@ -15,7 +15,7 @@ use Rattle.model.specs.Facts.{quotes, quoted}
 use Rattle.model.specs.Slips.{premise-words, slip-words, premise-list, premises-at, slip-at}
 use Rattle.model.specs.Agenda.{agenda, each-of}
 use Rattle.model.specs.Rounds.{settled, conflict, stopped, still-open, acted, attempt, run, made}
-use Rattle.model.specs.Questions.{each, questions, own-questions}
+use Rattle.model.specs.Questions.{each, questions, own-questions, plan-questions}
 use Rattle.model.specs.Planner.{Reply, refused, done, Outcome, plan}
 use Rattle.model.specs.Reader.{whole, reading, premises-fit, names, all-true, narrowed, gives, slip-questions, read-from, read-all, check}
 use Rattle.model.specs.Text.{bytes, digits-value, numbers-behind, next-sets, job-of, job-text}
@@ -24,8 +24,10 @@ use Rattle.model.specs.Program.{slip-room, program}
 
 -- ---- a case
 
+-- The planner's with its round limit, the reader's.
 pub data Call : Type 0 where
-  planner reader : Call
+  planner : ℤ → Call
+  reader : Call
 
 pub record Case : Type 0 where
   pub call : Call
@@ -41,7 +43,7 @@ abbrev pub outcome : Case → Outcome
 outcome c = go (c .call)
   where
     go : Call → Outcome
-    go planner = plan (c .job) (c .buffer)
+    go (planner limit) = plan (c .job) limit (c .buffer)
     go reader = check (c .job) (c .buffer)
 
 abbrev pub expected : Case → Outcome
@@ -70,7 +72,7 @@ standard q table lags = job (pos 100) (pos 0 ∷ pos 10 ∷ q ∷ pos 1 ∷ []) 
 abbrev pub k1 : Case
 k1 =
     record {
-      call = planner;
+      call = planner (pos 0);
       job = standard (pos 0) (pos 5 ∷ pos 40 ∷ pos 6 ∷ pos 6 ∷ pos 0 ∷ pos 0 ∷ pos 30 ∷ neg 4 ∷ neg 4 ∷ pos 0 ∷ []) [];
       buffer = blank 18;
       reply = done settled 1 2 16;
@@ -83,7 +85,7 @@ k1 =
 abbrev pub k2 : Case
 k2 =
     record {
-      call = planner;
+      call = planner (pos 0);
       job = standard (pos 0) (pos 5 ∷ pos 40 ∷ pos 6 ∷ pos 6 ∷ pos 0 ∷ pos 0 ∷ pos 30 ∷ neg 4 ∷ neg 4 ∷ pos 0 ∷ []) [];
       buffer = blank 15;
       reply = done stopped 0 1 3;
@@ -96,7 +98,7 @@ k2 =
 abbrev pub k3 : Case
 k3 =
     record {
-      call = planner;
+      call = planner (pos 0);
       job = standard (pos 0) [] [];
       buffer = blank 3;
       reply = done settled 0 1 3;
@@ -109,7 +111,7 @@ k3 =
 abbrev pub k4 : Case
 k4 =
     record {
-      call = planner;
+      call = planner (pos 0);
       job = standard (pos 3) (pos 0 ∷ pos 30 ∷ neg 4 ∷ neg 4 ∷ pos 0 ∷ []) [];
       buffer = blank 16;
       reply = done conflict 1 1 13;
@@ -122,7 +124,7 @@ k4 =
 abbrev pub k4-settled : Case
 k4-settled =
     record {
-      call = planner;
+      call = planner (pos 0);
       job = standard (pos 4) (pos 0 ∷ pos 30 ∷ neg 4 ∷ neg 4 ∷ pos 0 ∷ []) [];
       buffer = blank 16;
       reply = done settled 0 1 3;
@@ -135,7 +137,7 @@ k4-settled =
 abbrev pub k5 : Case
 k5 =
     record {
-      call = planner;
+      call = planner (pos 0);
       job = standard (pos 5) (pos 0 ∷ pos 30 ∷ neg 9 ∷ neg 2 ∷ pos 0 ∷ []) [];
       buffer = blank 16;
       reply = done settled 1 2 10;
@@ -148,7 +150,7 @@ k5 =
 abbrev pub k6 : Case
 k6 =
     record {
-      call = planner;
+      call = planner (pos 0);
       job = standard (pos 0) (pos 0 ∷ pos 30 ∷ pos 7 ∷ pos 20 ∷ pos 0 ∷ []) [];
       buffer = blank 16;
       reply = done settled 1 2 10;
@@ -161,7 +163,7 @@ k6 =
 abbrev pub k6-conflict : Case
 k6-conflict =
     record {
-      call = planner;
+      call = planner (pos 0);
       job = standard (pos 0) (pos 0 ∷ pos 30 ∷ pos 11 ∷ pos 20 ∷ pos 0 ∷ []) [];
       buffer = blank 16;
       reply = done conflict 1 1 13;
@@ -174,7 +176,7 @@ k6-conflict =
 abbrev pub k7 : Case
 k7 =
     record {
-      call = planner;
+      call = planner (pos 0);
       job = standard (pos 0) (pos 7 ∷ pos 7 ∷ pos 6 ∷ pos 6 ∷ pos 0 ∷ pos 7 ∷ pos 7 ∷ neg 4 ∷ neg 4 ∷ pos 0 ∷ []) [];
       buffer = blank 16;
       reply = done settled 0 1 3;
@@ -187,7 +189,7 @@ k7 =
 abbrev pub k8 : Case
 k8 =
     record {
-      call = planner;
+      call = planner (pos 0);
       job = standard (pos 0) (pos 0 ∷ pos 10 ∷ pos 0 ∷ pos 0 ∷ pos 0 ∷ pos 0 ∷ pos 6 ∷ pos 0 ∷ pos 0 ∷ pos 0 ∷ []) (pos 0 ∷ pos 1 ∷ neg 2 ∷ []);
       buffer = blank 24;
       reply = done settled 2 2 23;
@@ -252,7 +254,7 @@ k9-false =
 abbrev pub k10-horizon : Case
 k10-horizon =
     record {
-      call = planner;
+      call = planner (pos 0);
       job = job (pos 20001) (pos 0 ∷ pos 10 ∷ pos 11 ∷ pos 1 ∷ []) (pos 5 ∷ pos 40 ∷ pos 6 ∷ pos 6 ∷ pos 0 ∷ pos 0 ∷ pos 30 ∷ neg 4 ∷ neg 4 ∷ pos 0 ∷ []) [] [];
       buffer = blank 16;
       reply = refused 1 0;
@@ -265,7 +267,7 @@ k10-horizon =
 abbrev pub k10-stock : Case
 k10-stock =
     record {
-      call = planner;
+      call = planner (pos 0);
       job = job (pos 20000) (pos 0 ∷ pos 10 ∷ pos 11 ∷ pos 1 ∷ []) (pos 5 ∷ pos 40 ∷ pos 6 ∷ pos 6 ∷ pos 0 ∷ pos 0 ∷ pos 30 ∷ neg 4 ∷ neg 4 ∷ pos 0 ∷ []) [] [];
       buffer = blank 16;
       reply = refused 3 0;
@@ -278,7 +280,7 @@ k10-stock =
 abbrev pub k10-order : Case
 k10-order =
     record {
-      call = planner;
+      call = planner (pos 0);
       job = standard (pos 0) (pos 0 ∷ pos 30 ∷ neg 1 ∷ pos 1 ∷ pos 0 ∷ pos 5 ∷ pos 4 ∷ pos 1 ∷ pos 1 ∷ pos 0 ∷ []) [];
       buffer = blank 16;
       reply = refused 5 1;
@@ -291,7 +293,7 @@ k10-order =
 abbrev pub k1-later : Case
 k1-later =
     record {
-      call = planner;
+      call = planner (pos 0);
       job = job (pos 100) (pos 0 ∷ pos 10 ∷ pos 0 ∷ pos 0 ∷ []) (pos 5 ∷ pos 40 ∷ pos 6 ∷ pos 6 ∷ pos 0 ∷ pos 0 ∷ pos 30 ∷ neg 4 ∷ neg 4 ∷ pos 0 ∷ []) [] [];
       buffer = blank 18;
       reply = done settled 1 2 16;
@@ -304,7 +306,7 @@ k1-later =
 abbrev pub k7-later : Case
 k7-later =
     record {
-      call = planner;
+      call = planner (pos 0);
       job = job (pos 100) (pos 0 ∷ pos 10 ∷ pos 0 ∷ pos 0 ∷ []) (pos 7 ∷ pos 7 ∷ pos 6 ∷ pos 6 ∷ pos 0 ∷ pos 7 ∷ pos 7 ∷ neg 4 ∷ neg 4 ∷ pos 0 ∷ []) [] [];
       buffer = blank 22;
       reply = done conflict 1 1 19;
@@ -317,7 +319,7 @@ k7-later =
 abbrev pub cover-refused : Case
 cover-refused =
     record {
-      call = planner;
+      call = planner (pos 0);
       job = job (pos 100) (pos 0 ∷ pos 10 ∷ pos 0 ∷ pos 2 ∷ []) (pos 7 ∷ pos 7 ∷ pos 6 ∷ pos 6 ∷ pos 0 ∷ pos 7 ∷ pos 7 ∷ neg 4 ∷ neg 4 ∷ pos 0 ∷ []) [] [];
       buffer = blank 16;
       reply = refused 22 0;
@@ -356,7 +358,7 @@ cover-first =
 abbrev pub two-cages : Case
 two-cages =
     record {
-      call = planner;
+      call = planner (pos 0);
       job = job (pos 100) (pos 0 ∷ pos 10 ∷ pos 0 ∷ pos 1 ∷ pos 0 ∷ pos 10 ∷ pos 0 ∷ pos 0 ∷ []) (pos 5 ∷ pos 40 ∷ pos 6 ∷ pos 6 ∷ pos 1 ∷ pos 0 ∷ pos 3 ∷ pos 9 ∷ pos 9 ∷ pos 0 ∷ pos 0 ∷ pos 30 ∷ neg 4 ∷ neg 4 ∷ pos 1 ∷ []) [] [];
       buffer = blank 18;
       reply = done settled 1 2 16;
@@ -369,7 +371,7 @@ two-cages =
 abbrev pub no-cage : Case
 no-cage =
     record {
-      call = planner;
+      call = planner (pos 0);
       job = job (pos 100) [] (pos 7 ∷ pos 7 ∷ pos 6 ∷ pos 6 ∷ pos 0 ∷ pos 7 ∷ pos 7 ∷ neg 4 ∷ neg 4 ∷ pos 0 ∷ []) [] [];
       buffer = blank 16;
       reply = refused 29 0;
@@ -382,7 +384,7 @@ no-cage =
 abbrev pub cage-unknown : Case
 cage-unknown =
     record {
-      call = planner;
+      call = planner (pos 0);
       job = standard (pos 0) (pos 7 ∷ pos 7 ∷ pos 6 ∷ pos 6 ∷ pos 0 ∷ pos 7 ∷ pos 7 ∷ neg 4 ∷ neg 4 ∷ pos 1 ∷ []) [];
       buffer = blank 16;
       reply = refused 30 1;
@@ -395,7 +397,7 @@ cage-unknown =
 abbrev pub second-cage : Case
 second-cage =
     record {
-      call = planner;
+      call = planner (pos 0);
       job = job (pos 100) (pos 0 ∷ pos 10 ∷ pos 0 ∷ pos 1 ∷ pos 0 ∷ pos 10 ∷ pos 11 ∷ pos 1 ∷ []) (pos 7 ∷ pos 7 ∷ pos 6 ∷ pos 6 ∷ pos 0 ∷ pos 7 ∷ pos 7 ∷ neg 4 ∷ neg 4 ∷ pos 0 ∷ []) [] [];
       buffer = blank 16;
       reply = refused 3 1;
@@ -434,7 +436,7 @@ cage-last =
 abbrev pub set-least-total : Case
 set-least-total =
     record {
-      call = planner;
+      call = planner (pos 0);
       job = job (pos 100) (pos 0 ∷ pos 1000 ∷ pos 0 ∷ pos 1 ∷ []) (pos 0 ∷ pos 10 ∷ pos 1 ∷ pos 9 ∷ pos 0 ∷ pos 0 ∷ pos 10 ∷ pos 2 ∷ pos 3 ∷ pos 0 ∷ []) [] (pos 10 ∷ pos 11 ∷ pos 2 ∷ pos 0 ∷ pos 1 ∷ []);
       buffer = blank 14;
       reply = done settled 1 2 13;
@@ -460,7 +462,7 @@ set-read =
 abbrev pub set-most-total : Case
 set-most-total =
     record {
-      call = planner;
+      call = planner (pos 0);
       job = job (pos 100) (pos 0 ∷ pos 1000 ∷ pos 0 ∷ pos 1 ∷ []) (pos 0 ∷ pos 10 ∷ pos 7 ∷ pos 9 ∷ pos 0 ∷ pos 0 ∷ pos 10 ∷ pos 2 ∷ pos 5 ∷ pos 0 ∷ []) [] (pos 0 ∷ pos 11 ∷ pos 2 ∷ pos 0 ∷ pos 1 ∷ []);
       buffer = blank 14;
       reply = done settled 1 2 13;
@@ -473,7 +475,7 @@ set-most-total =
 abbrev pub set-neutral : Case
 set-neutral =
     record {
-      call = planner;
+      call = planner (pos 0);
       job = job (pos 100) (pos 0 ∷ pos 1000 ∷ pos 0 ∷ pos 1 ∷ []) (pos 0 ∷ pos 10 ∷ pos 0 ∷ pos 0 ∷ pos 0 ∷ pos 0 ∷ pos 10 ∷ pos 2 ∷ pos 3 ∷ pos 0 ∷ []) [] (pos 4 ∷ pos 9 ∷ pos 2 ∷ pos 0 ∷ pos 1 ∷ []);
       buffer = blank 17;
       reply = done conflict 1 1 16;
@@ -486,7 +488,7 @@ set-neutral =
 abbrev pub set-before-events : Case
 set-before-events =
     record {
-      call = planner;
+      call = planner (pos 0);
       job = job (pos 100) (pos 0 ∷ pos 10 ∷ pos 5 ∷ pos 1 ∷ []) (pos 0 ∷ pos 30 ∷ neg 9 ∷ neg 2 ∷ pos 0 ∷ []) [] (neg 3 ∷ pos 0 ∷ pos 1 ∷ pos 0 ∷ []);
       buffer = blank 20;
       reply = done settled 1 2 10;
@@ -499,7 +501,7 @@ set-before-events =
 abbrev pub set-unquoted : Case
 set-unquoted =
     record {
-      call = planner;
+      call = planner (pos 0);
       job = job (pos 100) (pos 0 ∷ pos 1000 ∷ pos 0 ∷ pos 1 ∷ []) (pos 0 ∷ pos 10 ∷ pos 0 ∷ pos 0 ∷ pos 0 ∷ pos 0 ∷ pos 10 ∷ pos 2 ∷ pos 3 ∷ pos 0 ∷ []) [] (pos 3 ∷ pos 9 ∷ pos 2 ∷ pos 0 ∷ pos 1 ∷ []);
       buffer = blank 20;
       reply = done settled 1 2 10;
@@ -525,7 +527,7 @@ set-no-member =
 abbrev pub set-cut : Case
 set-cut =
     record {
-      call = planner;
+      call = planner (pos 0);
       job = job (pos 100) (pos 0 ∷ pos 1000 ∷ pos 0 ∷ pos 1 ∷ []) (pos 0 ∷ pos 10 ∷ pos 1 ∷ pos 9 ∷ pos 0 ∷ pos 0 ∷ pos 10 ∷ pos 2 ∷ pos 3 ∷ pos 0 ∷ []) [] (pos 0 ∷ pos 5 ∷ pos 0 ∷ pos 0 ∷ pos 5 ∷ []);
       buffer = blank 3;
       reply = refused 31 1;
@@ -538,7 +540,7 @@ set-cut =
 abbrev pub set-many : Case
 set-many =
     record {
-      call = planner;
+      call = planner (pos 0);
       job = job (pos 100) (pos 0 ∷ pos 1000 ∷ pos 0 ∷ pos 1 ∷ []) (pos 0 ∷ pos 10 ∷ pos 1 ∷ pos 9 ∷ pos 0 ∷ pos 0 ∷ pos 10 ∷ pos 2 ∷ pos 3 ∷ pos 0 ∷ []) [] (pos 0 ∷ pos 5 ∷ pos 1 ∷ pos 0 ∷ pos 0 ∷ pos 5 ∷ pos 1 ∷ pos 0 ∷ pos 0 ∷ pos 5 ∷ pos 1 ∷ pos 0 ∷ pos 0 ∷ pos 5 ∷ pos 1 ∷ pos 0 ∷ pos 0 ∷ pos 5 ∷ pos 1 ∷ pos 0 ∷ pos 0 ∷ pos 5 ∷ pos 1 ∷ pos 0 ∷ pos 0 ∷ pos 5 ∷ pos 1 ∷ pos 0 ∷ pos 0 ∷ pos 5 ∷ pos 1 ∷ pos 0 ∷ pos 0 ∷ pos 5 ∷ pos 1 ∷ pos 0 ∷ pos 0 ∷ pos 5 ∷ pos 1 ∷ pos 0 ∷ pos 0 ∷ pos 5 ∷ pos 1 ∷ pos 0 ∷ pos 0 ∷ pos 5 ∷ pos 1 ∷ pos 0 ∷ pos 0 ∷ pos 5 ∷ pos 1 ∷ pos 0 ∷ pos 0 ∷ pos 5 ∷ pos 1 ∷ pos 0 ∷ pos 0 ∷ pos 5 ∷ pos 1 ∷ pos 0 ∷ pos 0 ∷ pos 5 ∷ pos 1 ∷ pos 0 ∷ pos 0 ∷ []);
       buffer = blank 3;
       reply = refused 31 16;
@@ -551,7 +553,7 @@ set-many =
 abbrev pub set-empty : Case
 set-empty =
     record {
-      call = planner;
+      call = planner (pos 0);
       job = job (pos 100) (pos 0 ∷ pos 1000 ∷ pos 0 ∷ pos 1 ∷ []) (pos 0 ∷ pos 10 ∷ pos 1 ∷ pos 9 ∷ pos 0 ∷ pos 0 ∷ pos 10 ∷ pos 2 ∷ pos 3 ∷ pos 0 ∷ []) [] (pos 0 ∷ pos 5 ∷ pos 1 ∷ pos 0 ∷ pos 0 ∷ pos 5 ∷ neg 1 ∷ []);
       buffer = blank 3;
       reply = refused 32 1;
@@ -564,7 +566,7 @@ set-empty =
 abbrev pub set-twice : Case
 set-twice =
     record {
-      call = planner;
+      call = planner (pos 0);
       job = job (pos 100) (pos 0 ∷ pos 1000 ∷ pos 0 ∷ pos 1 ∷ []) (pos 0 ∷ pos 10 ∷ pos 1 ∷ pos 9 ∷ pos 0 ∷ pos 0 ∷ pos 10 ∷ pos 2 ∷ pos 3 ∷ pos 0 ∷ []) [] (pos 0 ∷ pos 5 ∷ pos 2 ∷ pos 1 ∷ pos 1 ∷ []);
       buffer = blank 3;
       reply = refused 32 0;
@@ -577,7 +579,7 @@ set-twice =
 abbrev pub set-stranger : Case
 set-stranger =
     record {
-      call = planner;
+      call = planner (pos 0);
       job = job (pos 100) (pos 0 ∷ pos 1000 ∷ pos 0 ∷ pos 1 ∷ []) (pos 0 ∷ pos 10 ∷ pos 1 ∷ pos 9 ∷ pos 0 ∷ pos 0 ∷ pos 10 ∷ pos 2 ∷ pos 3 ∷ pos 0 ∷ []) [] (pos 0 ∷ pos 5 ∷ pos 2 ∷ pos 1 ∷ pos 2 ∷ []);
       buffer = blank 3;
       reply = refused 32 0;
@@ -590,7 +592,7 @@ set-stranger =
 abbrev pub set-turned : Case
 set-turned =
     record {
-      call = planner;
+      call = planner (pos 0);
       job = job (pos 100) (pos 0 ∷ pos 1000 ∷ pos 0 ∷ pos 1 ∷ []) (pos 0 ∷ pos 10 ∷ pos 1 ∷ pos 9 ∷ pos 0 ∷ pos 0 ∷ pos 10 ∷ pos 2 ∷ pos 3 ∷ pos 0 ∷ []) [] (pos 0 ∷ pos 5 ∷ pos 1 ∷ pos 0 ∷ pos 5 ∷ pos 0 ∷ pos 1 ∷ pos 0 ∷ []);
       buffer = blank 3;
       reply = refused 33 1;
@@ -609,6 +611,214 @@ rule-15 =
       reply = refused 13 0;
       table-left = pos 0 ∷ pos 10 ∷ pos 1 ∷ pos 9 ∷ pos 0 ∷ pos 0 ∷ pos 10 ∷ pos 2 ∷ pos 3 ∷ pos 0 ∷ [];
       buffer-left = pos 15 ∷ pos 0 ∷ pos 0 ∷ pos 3 ∷ pos 7 ∷ pos 1 ∷ pos 1 ∷ pos 4 ∷ pos 3 ∷ pos 10 ∷ pos 1 ∷ pos 0 ∷ pos 4207 ∷ [];
+      printed = [];
+    }
+
+-- Two lags at odds by one minute, no limit: a conflict, after creeping through the horizon.
+abbrev pub crawl : Case
+crawl =
+    record {
+      call = planner (pos 0);
+      job = job (pos 6) (pos 0 ∷ pos 10 ∷ pos 0 ∷ pos 1 ∷ []) (pos 0 ∷ pos 6 ∷ pos 0 ∷ pos 0 ∷ pos 0 ∷ pos 0 ∷ pos 6 ∷ pos 0 ∷ pos 0 ∷ pos 0 ∷ []) (pos 0 ∷ pos 1 ∷ neg 1 ∷ pos 1 ∷ pos 0 ∷ pos 0 ∷ []) [];
+      buffer = blank 138;
+      reply = done conflict 13 4 136;
+      table-left = pos 3 ∷ pos 3 ∷ pos 0 ∷ pos 0 ∷ pos 0 ∷ pos 3 ∷ pos 3 ∷ pos 0 ∷ pos 0 ∷ pos 0 ∷ [];
+      buffer-left = pos 1 ∷ pos 0 ∷ pos 0 ∷ pos 2 ∷ pos 5 ∷ pos 1 ∷ pos 1 ∷ pos 2 ∷ pos 6 ∷ pos 10 ∷ pos 2 ∷ pos 0 ∷ pos 1 ∷ pos 1 ∷ pos 1 ∷ pos 1 ∷ pos 0 ∷ pos 1 ∷ pos 0 ∷ pos 10 ∷ pos 1 ∷ pos 1 ∷ pos 1 ∷ pos 2 ∷ pos 5 ∷ pos 1 ∷ pos 0 ∷ pos 2 ∷ pos 5 ∷ pos 10 ∷ pos 2 ∷ pos 1 ∷ pos 0 ∷ pos 1 ∷ pos 1 ∷ pos 1 ∷ pos 1 ∷ pos 1 ∷ pos 1 ∷ pos 10 ∷ pos 1 ∷ pos 0 ∷ pos 0 ∷ pos 2 ∷ pos 4 ∷ pos 1 ∷ pos 1 ∷ pos 2 ∷ pos 5 ∷ pos 10 ∷ pos 2 ∷ pos 0 ∷ pos 1 ∷ pos 1 ∷ pos 2 ∷ pos 1 ∷ pos 0 ∷ pos 1 ∷ pos 1 ∷ pos 10 ∷ pos 1 ∷ pos 1 ∷ pos 1 ∷ pos 2 ∷ pos 4 ∷ pos 1 ∷ pos 0 ∷ pos 2 ∷ pos 4 ∷ pos 10 ∷ pos 2 ∷ pos 1 ∷ pos 0 ∷ pos 1 ∷ pos 2 ∷ pos 1 ∷ pos 1 ∷ pos 1 ∷ pos 2 ∷ pos 10 ∷ pos 1 ∷ pos 0 ∷ pos 0 ∷ pos 2 ∷ pos 3 ∷ pos 1 ∷ pos 1 ∷ pos 2 ∷ pos 4 ∷ pos 10 ∷ pos 2 ∷ pos 0 ∷ pos 1 ∷ pos 1 ∷ pos 3 ∷ pos 1 ∷ pos 0 ∷ pos 1 ∷ pos 2 ∷ pos 10 ∷ pos 1 ∷ pos 1 ∷ pos 1 ∷ pos 2 ∷ pos 3 ∷ pos 1 ∷ pos 0 ∷ pos 2 ∷ pos 3 ∷ pos 10 ∷ pos 2 ∷ pos 1 ∷ pos 0 ∷ pos 1 ∷ pos 3 ∷ pos 1 ∷ pos 1 ∷ pos 1 ∷ pos 3 ∷ pos 10 ∷ pos 1 ∷ pos 0 ∷ pos 0 ∷ pos 0 ∷ pos 0 ∷ pos 2 ∷ pos 0 ∷ pos 1 ∷ pos 3 ∷ pos 1 ∷ pos 2 ∷ pos 3 ∷ pos 13 ∷ pos 13 ∷ pos 120 ∷ pos 4207 ∷ pos 77 ∷ pos 77 ∷ [];
+      printed = [];
+    }
+
+-- The limit is the number of rounds that the rules take: the same.
+abbrev pub crawl-last : Case
+crawl-last =
+    record {
+      call = planner (pos 4);
+      job = job (pos 6) (pos 0 ∷ pos 10 ∷ pos 0 ∷ pos 1 ∷ []) (pos 0 ∷ pos 6 ∷ pos 0 ∷ pos 0 ∷ pos 0 ∷ pos 0 ∷ pos 6 ∷ pos 0 ∷ pos 0 ∷ pos 0 ∷ []) (pos 0 ∷ pos 1 ∷ neg 1 ∷ pos 1 ∷ pos 0 ∷ pos 0 ∷ []) [];
+      buffer = blank 138;
+      reply = done conflict 13 4 136;
+      table-left = pos 3 ∷ pos 3 ∷ pos 0 ∷ pos 0 ∷ pos 0 ∷ pos 3 ∷ pos 3 ∷ pos 0 ∷ pos 0 ∷ pos 0 ∷ [];
+      buffer-left = pos 1 ∷ pos 0 ∷ pos 0 ∷ pos 2 ∷ pos 5 ∷ pos 1 ∷ pos 1 ∷ pos 2 ∷ pos 6 ∷ pos 10 ∷ pos 2 ∷ pos 0 ∷ pos 1 ∷ pos 1 ∷ pos 1 ∷ pos 1 ∷ pos 0 ∷ pos 1 ∷ pos 0 ∷ pos 10 ∷ pos 1 ∷ pos 1 ∷ pos 1 ∷ pos 2 ∷ pos 5 ∷ pos 1 ∷ pos 0 ∷ pos 2 ∷ pos 5 ∷ pos 10 ∷ pos 2 ∷ pos 1 ∷ pos 0 ∷ pos 1 ∷ pos 1 ∷ pos 1 ∷ pos 1 ∷ pos 1 ∷ pos 1 ∷ pos 10 ∷ pos 1 ∷ pos 0 ∷ pos 0 ∷ pos 2 ∷ pos 4 ∷ pos 1 ∷ pos 1 ∷ pos 2 ∷ pos 5 ∷ pos 10 ∷ pos 2 ∷ pos 0 ∷ pos 1 ∷ pos 1 ∷ pos 2 ∷ pos 1 ∷ pos 0 ∷ pos 1 ∷ pos 1 ∷ pos 10 ∷ pos 1 ∷ pos 1 ∷ pos 1 ∷ pos 2 ∷ pos 4 ∷ pos 1 ∷ pos 0 ∷ pos 2 ∷ pos 4 ∷ pos 10 ∷ pos 2 ∷ pos 1 ∷ pos 0 ∷ pos 1 ∷ pos 2 ∷ pos 1 ∷ pos 1 ∷ pos 1 ∷ pos 2 ∷ pos 10 ∷ pos 1 ∷ pos 0 ∷ pos 0 ∷ pos 2 ∷ pos 3 ∷ pos 1 ∷ pos 1 ∷ pos 2 ∷ pos 4 ∷ pos 10 ∷ pos 2 ∷ pos 0 ∷ pos 1 ∷ pos 1 ∷ pos 3 ∷ pos 1 ∷ pos 0 ∷ pos 1 ∷ pos 2 ∷ pos 10 ∷ pos 1 ∷ pos 1 ∷ pos 1 ∷ pos 2 ∷ pos 3 ∷ pos 1 ∷ pos 0 ∷ pos 2 ∷ pos 3 ∷ pos 10 ∷ pos 2 ∷ pos 1 ∷ pos 0 ∷ pos 1 ∷ pos 3 ∷ pos 1 ∷ pos 1 ∷ pos 1 ∷ pos 3 ∷ pos 10 ∷ pos 1 ∷ pos 0 ∷ pos 0 ∷ pos 0 ∷ pos 0 ∷ pos 2 ∷ pos 0 ∷ pos 1 ∷ pos 3 ∷ pos 1 ∷ pos 2 ∷ pos 3 ∷ pos 13 ∷ pos 13 ∷ pos 120 ∷ pos 4207 ∷ pos 77 ∷ pos 77 ∷ [];
+      printed = [];
+    }
+
+-- More than that: the same.
+abbrev pub crawl-more : Case
+crawl-more =
+    record {
+      call = planner (pos 5);
+      job = job (pos 6) (pos 0 ∷ pos 10 ∷ pos 0 ∷ pos 1 ∷ []) (pos 0 ∷ pos 6 ∷ pos 0 ∷ pos 0 ∷ pos 0 ∷ pos 0 ∷ pos 6 ∷ pos 0 ∷ pos 0 ∷ pos 0 ∷ []) (pos 0 ∷ pos 1 ∷ neg 1 ∷ pos 1 ∷ pos 0 ∷ pos 0 ∷ []) [];
+      buffer = blank 138;
+      reply = done conflict 13 4 136;
+      table-left = pos 3 ∷ pos 3 ∷ pos 0 ∷ pos 0 ∷ pos 0 ∷ pos 3 ∷ pos 3 ∷ pos 0 ∷ pos 0 ∷ pos 0 ∷ [];
+      buffer-left = pos 1 ∷ pos 0 ∷ pos 0 ∷ pos 2 ∷ pos 5 ∷ pos 1 ∷ pos 1 ∷ pos 2 ∷ pos 6 ∷ pos 10 ∷ pos 2 ∷ pos 0 ∷ pos 1 ∷ pos 1 ∷ pos 1 ∷ pos 1 ∷ pos 0 ∷ pos 1 ∷ pos 0 ∷ pos 10 ∷ pos 1 ∷ pos 1 ∷ pos 1 ∷ pos 2 ∷ pos 5 ∷ pos 1 ∷ pos 0 ∷ pos 2 ∷ pos 5 ∷ pos 10 ∷ pos 2 ∷ pos 1 ∷ pos 0 ∷ pos 1 ∷ pos 1 ∷ pos 1 ∷ pos 1 ∷ pos 1 ∷ pos 1 ∷ pos 10 ∷ pos 1 ∷ pos 0 ∷ pos 0 ∷ pos 2 ∷ pos 4 ∷ pos 1 ∷ pos 1 ∷ pos 2 ∷ pos 5 ∷ pos 10 ∷ pos 2 ∷ pos 0 ∷ pos 1 ∷ pos 1 ∷ pos 2 ∷ pos 1 ∷ pos 0 ∷ pos 1 ∷ pos 1 ∷ pos 10 ∷ pos 1 ∷ pos 1 ∷ pos 1 ∷ pos 2 ∷ pos 4 ∷ pos 1 ∷ pos 0 ∷ pos 2 ∷ pos 4 ∷ pos 10 ∷ pos 2 ∷ pos 1 ∷ pos 0 ∷ pos 1 ∷ pos 2 ∷ pos 1 ∷ pos 1 ∷ pos 1 ∷ pos 2 ∷ pos 10 ∷ pos 1 ∷ pos 0 ∷ pos 0 ∷ pos 2 ∷ pos 3 ∷ pos 1 ∷ pos 1 ∷ pos 2 ∷ pos 4 ∷ pos 10 ∷ pos 2 ∷ pos 0 ∷ pos 1 ∷ pos 1 ∷ pos 3 ∷ pos 1 ∷ pos 0 ∷ pos 1 ∷ pos 2 ∷ pos 10 ∷ pos 1 ∷ pos 1 ∷ pos 1 ∷ pos 2 ∷ pos 3 ∷ pos 1 ∷ pos 0 ∷ pos 2 ∷ pos 3 ∷ pos 10 ∷ pos 2 ∷ pos 1 ∷ pos 0 ∷ pos 1 ∷ pos 3 ∷ pos 1 ∷ pos 1 ∷ pos 1 ∷ pos 3 ∷ pos 10 ∷ pos 1 ∷ pos 0 ∷ pos 0 ∷ pos 0 ∷ pos 0 ∷ pos 2 ∷ pos 0 ∷ pos 1 ∷ pos 3 ∷ pos 1 ∷ pos 2 ∷ pos 3 ∷ pos 13 ∷ pos 13 ∷ pos 120 ∷ pos 4207 ∷ pos 77 ∷ pos 77 ∷ [];
+      printed = [];
+    }
+
+-- One less: stopped.
+abbrev pub crawl-cut : Case
+crawl-cut =
+    record {
+      call = planner (pos 3);
+      job = job (pos 6) (pos 0 ∷ pos 10 ∷ pos 0 ∷ pos 1 ∷ []) (pos 0 ∷ pos 6 ∷ pos 0 ∷ pos 0 ∷ pos 0 ∷ pos 0 ∷ pos 6 ∷ pos 0 ∷ pos 0 ∷ pos 0 ∷ []) (pos 0 ∷ pos 1 ∷ neg 1 ∷ pos 1 ∷ pos 0 ∷ pos 0 ∷ []) [];
+      buffer = blank 125;
+      reply = done stopped 12 3 123;
+      table-left = pos 3 ∷ pos 3 ∷ pos 0 ∷ pos 0 ∷ pos 0 ∷ pos 3 ∷ pos 3 ∷ pos 0 ∷ pos 0 ∷ pos 0 ∷ [];
+      buffer-left = pos 1 ∷ pos 0 ∷ pos 0 ∷ pos 2 ∷ pos 5 ∷ pos 1 ∷ pos 1 ∷ pos 2 ∷ pos 6 ∷ pos 10 ∷ pos 2 ∷ pos 0 ∷ pos 1 ∷ pos 1 ∷ pos 1 ∷ pos 1 ∷ pos 0 ∷ pos 1 ∷ pos 0 ∷ pos 10 ∷ pos 1 ∷ pos 1 ∷ pos 1 ∷ pos 2 ∷ pos 5 ∷ pos 1 ∷ pos 0 ∷ pos 2 ∷ pos 5 ∷ pos 10 ∷ pos 2 ∷ pos 1 ∷ pos 0 ∷ pos 1 ∷ pos 1 ∷ pos 1 ∷ pos 1 ∷ pos 1 ∷ pos 1 ∷ pos 10 ∷ pos 1 ∷ pos 0 ∷ pos 0 ∷ pos 2 ∷ pos 4 ∷ pos 1 ∷ pos 1 ∷ pos 2 ∷ pos 5 ∷ pos 10 ∷ pos 2 ∷ pos 0 ∷ pos 1 ∷ pos 1 ∷ pos 2 ∷ pos 1 ∷ pos 0 ∷ pos 1 ∷ pos 1 ∷ pos 10 ∷ pos 1 ∷ pos 1 ∷ pos 1 ∷ pos 2 ∷ pos 4 ∷ pos 1 ∷ pos 0 ∷ pos 2 ∷ pos 4 ∷ pos 10 ∷ pos 2 ∷ pos 1 ∷ pos 0 ∷ pos 1 ∷ pos 2 ∷ pos 1 ∷ pos 1 ∷ pos 1 ∷ pos 2 ∷ pos 10 ∷ pos 1 ∷ pos 0 ∷ pos 0 ∷ pos 2 ∷ pos 3 ∷ pos 1 ∷ pos 1 ∷ pos 2 ∷ pos 4 ∷ pos 10 ∷ pos 2 ∷ pos 0 ∷ pos 1 ∷ pos 1 ∷ pos 3 ∷ pos 1 ∷ pos 0 ∷ pos 1 ∷ pos 2 ∷ pos 10 ∷ pos 1 ∷ pos 1 ∷ pos 1 ∷ pos 2 ∷ pos 3 ∷ pos 1 ∷ pos 0 ∷ pos 2 ∷ pos 3 ∷ pos 10 ∷ pos 2 ∷ pos 1 ∷ pos 0 ∷ pos 1 ∷ pos 3 ∷ pos 1 ∷ pos 1 ∷ pos 1 ∷ pos 3 ∷ pos 10 ∷ pos 12 ∷ pos 110 ∷ pos 4207 ∷ pos 77 ∷ pos 77 ∷ [];
+      printed = [];
+    }
+
+-- Its list read back: open.
+abbrev pub crawl-read : Case
+crawl-read =
+    record {
+      call = reader;
+      job = job (pos 6) (pos 0 ∷ pos 10 ∷ pos 0 ∷ pos 1 ∷ []) (pos 0 ∷ pos 6 ∷ pos 0 ∷ pos 0 ∷ pos 0 ∷ pos 0 ∷ pos 6 ∷ pos 0 ∷ pos 0 ∷ pos 0 ∷ []) (pos 0 ∷ pos 1 ∷ neg 1 ∷ pos 1 ∷ pos 0 ∷ pos 0 ∷ []) [];
+      buffer = pos 1 ∷ pos 0 ∷ pos 0 ∷ pos 2 ∷ pos 5 ∷ pos 1 ∷ pos 1 ∷ pos 2 ∷ pos 6 ∷ pos 10 ∷ pos 2 ∷ pos 0 ∷ pos 1 ∷ pos 1 ∷ pos 1 ∷ pos 1 ∷ pos 0 ∷ pos 1 ∷ pos 0 ∷ pos 10 ∷ pos 1 ∷ pos 1 ∷ pos 1 ∷ pos 2 ∷ pos 5 ∷ pos 1 ∷ pos 0 ∷ pos 2 ∷ pos 5 ∷ pos 10 ∷ pos 2 ∷ pos 1 ∷ pos 0 ∷ pos 1 ∷ pos 1 ∷ pos 1 ∷ pos 1 ∷ pos 1 ∷ pos 1 ∷ pos 10 ∷ pos 1 ∷ pos 0 ∷ pos 0 ∷ pos 2 ∷ pos 4 ∷ pos 1 ∷ pos 1 ∷ pos 2 ∷ pos 5 ∷ pos 10 ∷ pos 2 ∷ pos 0 ∷ pos 1 ∷ pos 1 ∷ pos 2 ∷ pos 1 ∷ pos 0 ∷ pos 1 ∷ pos 1 ∷ pos 10 ∷ pos 1 ∷ pos 1 ∷ pos 1 ∷ pos 2 ∷ pos 4 ∷ pos 1 ∷ pos 0 ∷ pos 2 ∷ pos 4 ∷ pos 10 ∷ pos 2 ∷ pos 1 ∷ pos 0 ∷ pos 1 ∷ pos 2 ∷ pos 1 ∷ pos 1 ∷ pos 1 ∷ pos 2 ∷ pos 10 ∷ pos 1 ∷ pos 0 ∷ pos 0 ∷ pos 2 ∷ pos 3 ∷ pos 1 ∷ pos 1 ∷ pos 2 ∷ pos 4 ∷ pos 10 ∷ pos 2 ∷ pos 0 ∷ pos 1 ∷ pos 1 ∷ pos 3 ∷ pos 1 ∷ pos 0 ∷ pos 1 ∷ pos 2 ∷ pos 10 ∷ pos 1 ∷ pos 1 ∷ pos 1 ∷ pos 2 ∷ pos 3 ∷ pos 1 ∷ pos 0 ∷ pos 2 ∷ pos 3 ∷ pos 10 ∷ pos 2 ∷ pos 1 ∷ pos 0 ∷ pos 1 ∷ pos 3 ∷ pos 1 ∷ pos 1 ∷ pos 1 ∷ pos 3 ∷ pos 10 ∷ pos 12 ∷ pos 110 ∷ pos 4207 ∷ [];
+      reply = done still-open 0 0 0;
+      table-left = pos 3 ∷ pos 3 ∷ pos 0 ∷ pos 0 ∷ pos 0 ∷ pos 3 ∷ pos 3 ∷ pos 0 ∷ pos 0 ∷ pos 0 ∷ [];
+      buffer-left = pos 1 ∷ pos 0 ∷ pos 0 ∷ pos 2 ∷ pos 5 ∷ pos 1 ∷ pos 1 ∷ pos 2 ∷ pos 6 ∷ pos 10 ∷ pos 2 ∷ pos 0 ∷ pos 1 ∷ pos 1 ∷ pos 1 ∷ pos 1 ∷ pos 0 ∷ pos 1 ∷ pos 0 ∷ pos 10 ∷ pos 1 ∷ pos 1 ∷ pos 1 ∷ pos 2 ∷ pos 5 ∷ pos 1 ∷ pos 0 ∷ pos 2 ∷ pos 5 ∷ pos 10 ∷ pos 2 ∷ pos 1 ∷ pos 0 ∷ pos 1 ∷ pos 1 ∷ pos 1 ∷ pos 1 ∷ pos 1 ∷ pos 1 ∷ pos 10 ∷ pos 1 ∷ pos 0 ∷ pos 0 ∷ pos 2 ∷ pos 4 ∷ pos 1 ∷ pos 1 ∷ pos 2 ∷ pos 5 ∷ pos 10 ∷ pos 2 ∷ pos 0 ∷ pos 1 ∷ pos 1 ∷ pos 2 ∷ pos 1 ∷ pos 0 ∷ pos 1 ∷ pos 1 ∷ pos 10 ∷ pos 1 ∷ pos 1 ∷ pos 1 ∷ pos 2 ∷ pos 4 ∷ pos 1 ∷ pos 0 ∷ pos 2 ∷ pos 4 ∷ pos 10 ∷ pos 2 ∷ pos 1 ∷ pos 0 ∷ pos 1 ∷ pos 2 ∷ pos 1 ∷ pos 1 ∷ pos 1 ∷ pos 2 ∷ pos 10 ∷ pos 1 ∷ pos 0 ∷ pos 0 ∷ pos 2 ∷ pos 3 ∷ pos 1 ∷ pos 1 ∷ pos 2 ∷ pos 4 ∷ pos 10 ∷ pos 2 ∷ pos 0 ∷ pos 1 ∷ pos 1 ∷ pos 3 ∷ pos 1 ∷ pos 0 ∷ pos 1 ∷ pos 2 ∷ pos 10 ∷ pos 1 ∷ pos 1 ∷ pos 1 ∷ pos 2 ∷ pos 3 ∷ pos 1 ∷ pos 0 ∷ pos 2 ∷ pos 3 ∷ pos 10 ∷ pos 2 ∷ pos 1 ∷ pos 0 ∷ pos 1 ∷ pos 3 ∷ pos 1 ∷ pos 1 ∷ pos 1 ∷ pos 3 ∷ pos 10 ∷ pos 12 ∷ pos 110 ∷ pos 4207 ∷ [];
+      printed = [];
+    }
+
+-- One round.
+abbrev pub crawl-one : Case
+crawl-one =
+    record {
+      call = planner (pos 1);
+      job = job (pos 6) (pos 0 ∷ pos 10 ∷ pos 0 ∷ pos 1 ∷ []) (pos 0 ∷ pos 6 ∷ pos 0 ∷ pos 0 ∷ pos 0 ∷ pos 0 ∷ pos 6 ∷ pos 0 ∷ pos 0 ∷ pos 0 ∷ []) (pos 0 ∷ pos 1 ∷ neg 1 ∷ pos 1 ∷ pos 0 ∷ pos 0 ∷ []) [];
+      buffer = blank 45;
+      reply = done stopped 4 1 43;
+      table-left = pos 1 ∷ pos 5 ∷ pos 0 ∷ pos 0 ∷ pos 0 ∷ pos 1 ∷ pos 5 ∷ pos 0 ∷ pos 0 ∷ pos 0 ∷ [];
+      buffer-left = pos 1 ∷ pos 0 ∷ pos 0 ∷ pos 2 ∷ pos 5 ∷ pos 1 ∷ pos 1 ∷ pos 2 ∷ pos 6 ∷ pos 10 ∷ pos 2 ∷ pos 0 ∷ pos 1 ∷ pos 1 ∷ pos 1 ∷ pos 1 ∷ pos 0 ∷ pos 1 ∷ pos 0 ∷ pos 10 ∷ pos 1 ∷ pos 1 ∷ pos 1 ∷ pos 2 ∷ pos 5 ∷ pos 1 ∷ pos 0 ∷ pos 2 ∷ pos 5 ∷ pos 10 ∷ pos 2 ∷ pos 1 ∷ pos 0 ∷ pos 1 ∷ pos 1 ∷ pos 1 ∷ pos 1 ∷ pos 1 ∷ pos 1 ∷ pos 10 ∷ pos 4 ∷ pos 30 ∷ pos 4207 ∷ pos 77 ∷ pos 77 ∷ [];
+      printed = [];
+    }
+
+-- The room ends the run before the limit does.
+abbrev pub crawl-room : Case
+crawl-room =
+    record {
+      call = planner (pos 2);
+      job = job (pos 6) (pos 0 ∷ pos 10 ∷ pos 0 ∷ pos 1 ∷ []) (pos 0 ∷ pos 6 ∷ pos 0 ∷ pos 0 ∷ pos 0 ∷ pos 0 ∷ pos 6 ∷ pos 0 ∷ pos 0 ∷ pos 0 ∷ []) (pos 0 ∷ pos 1 ∷ neg 1 ∷ pos 1 ∷ pos 0 ∷ pos 0 ∷ []) [];
+      buffer = blank 25;
+      reply = done stopped 2 1 23;
+      table-left = pos 0 ∷ pos 5 ∷ pos 0 ∷ pos 0 ∷ pos 0 ∷ pos 1 ∷ pos 6 ∷ pos 0 ∷ pos 0 ∷ pos 0 ∷ [];
+      buffer-left = pos 1 ∷ pos 0 ∷ pos 0 ∷ pos 2 ∷ pos 5 ∷ pos 1 ∷ pos 1 ∷ pos 2 ∷ pos 6 ∷ pos 10 ∷ pos 2 ∷ pos 0 ∷ pos 1 ∷ pos 1 ∷ pos 1 ∷ pos 1 ∷ pos 0 ∷ pos 1 ∷ pos 0 ∷ pos 10 ∷ pos 2 ∷ pos 10 ∷ pos 4207 ∷ pos 77 ∷ pos 77 ∷ [];
+      printed = [];
+    }
+
+-- K1 with limit 1: its first round wrote a slip, so stopped.
+abbrev pub k1-one : Case
+k1-one =
+    record {
+      call = planner (pos 1);
+      job = standard (pos 0) (pos 5 ∷ pos 40 ∷ pos 6 ∷ pos 6 ∷ pos 0 ∷ pos 0 ∷ pos 30 ∷ neg 4 ∷ neg 4 ∷ pos 0 ∷ []) [];
+      buffer = blank 18;
+      reply = done stopped 1 1 16;
+      table-left = pos 5 ∷ pos 40 ∷ pos 6 ∷ pos 6 ∷ pos 0 ∷ pos 5 ∷ pos 30 ∷ neg 4 ∷ neg 4 ∷ pos 0 ∷ [];
+      buffer-left = pos 10 ∷ pos 1 ∷ pos 1 ∷ pos 1 ∷ pos 5 ∷ pos 2 ∷ pos 0 ∷ pos 1 ∷ pos 5 ∷ pos 1 ∷ pos 4 ∷ neg 4 ∷ pos 13 ∷ pos 1 ∷ pos 0 ∷ pos 4207 ∷ pos 77 ∷ pos 77 ∷ [];
+      printed = [];
+    }
+
+-- K1 with limit 2: its second round wrote none, so settled.
+abbrev pub k1-two : Case
+k1-two =
+    record {
+      call = planner (pos 2);
+      job = standard (pos 0) (pos 5 ∷ pos 40 ∷ pos 6 ∷ pos 6 ∷ pos 0 ∷ pos 0 ∷ pos 30 ∷ neg 4 ∷ neg 4 ∷ pos 0 ∷ []) [];
+      buffer = blank 18;
+      reply = done settled 1 2 16;
+      table-left = pos 5 ∷ pos 40 ∷ pos 6 ∷ pos 6 ∷ pos 0 ∷ pos 5 ∷ pos 30 ∷ neg 4 ∷ neg 4 ∷ pos 0 ∷ [];
+      buffer-left = pos 10 ∷ pos 1 ∷ pos 1 ∷ pos 1 ∷ pos 5 ∷ pos 2 ∷ pos 0 ∷ pos 1 ∷ pos 5 ∷ pos 1 ∷ pos 4 ∷ neg 4 ∷ pos 13 ∷ pos 1 ∷ pos 0 ∷ pos 4207 ∷ pos 77 ∷ pos 77 ∷ [];
+      printed = [];
+    }
+
+-- K1 with the largest limit.
+abbrev pub k1-high : Case
+k1-high =
+    record {
+      call = planner (pos 1000000);
+      job = standard (pos 0) (pos 5 ∷ pos 40 ∷ pos 6 ∷ pos 6 ∷ pos 0 ∷ pos 0 ∷ pos 30 ∷ neg 4 ∷ neg 4 ∷ pos 0 ∷ []) [];
+      buffer = blank 18;
+      reply = done settled 1 2 16;
+      table-left = pos 5 ∷ pos 40 ∷ pos 6 ∷ pos 6 ∷ pos 0 ∷ pos 5 ∷ pos 30 ∷ neg 4 ∷ neg 4 ∷ pos 0 ∷ [];
+      buffer-left = pos 10 ∷ pos 1 ∷ pos 1 ∷ pos 1 ∷ pos 5 ∷ pos 2 ∷ pos 0 ∷ pos 1 ∷ pos 5 ∷ pos 1 ∷ pos 4 ∷ neg 4 ∷ pos 13 ∷ pos 1 ∷ pos 0 ∷ pos 4207 ∷ pos 77 ∷ pos 77 ∷ [];
+      printed = [];
+    }
+
+-- A first round that writes nothing is settled.
+abbrev pub still-one : Case
+still-one =
+    record {
+      call = planner (pos 1);
+      job = standard (pos 0) (pos 5 ∷ pos 40 ∷ pos 6 ∷ pos 6 ∷ pos 0 ∷ []) [];
+      buffer = blank 5;
+      reply = done settled 0 1 3;
+      table-left = pos 5 ∷ pos 40 ∷ pos 6 ∷ pos 6 ∷ pos 0 ∷ [];
+      buffer-left = pos 0 ∷ pos 0 ∷ pos 4207 ∷ pos 77 ∷ pos 77 ∷ [];
+      printed = [];
+    }
+
+-- 28.
+abbrev pub limit-negative : Case
+limit-negative =
+    record {
+      call = planner (neg 1);
+      job = standard (pos 0) (pos 5 ∷ pos 40 ∷ pos 6 ∷ pos 6 ∷ pos 0 ∷ pos 0 ∷ pos 30 ∷ neg 4 ∷ neg 4 ∷ pos 0 ∷ []) [];
+      buffer = blank 5;
+      reply = refused 28 0;
+      table-left = pos 5 ∷ pos 40 ∷ pos 6 ∷ pos 6 ∷ pos 0 ∷ pos 0 ∷ pos 30 ∷ neg 4 ∷ neg 4 ∷ pos 0 ∷ [];
+      buffer-left = blank 5;
+      printed = [];
+    }
+
+-- 28.
+abbrev pub limit-over : Case
+limit-over =
+    record {
+      call = planner (pos 1000001);
+      job = standard (pos 0) (pos 5 ∷ pos 40 ∷ pos 6 ∷ pos 6 ∷ pos 0 ∷ pos 0 ∷ pos 30 ∷ neg 4 ∷ neg 4 ∷ pos 0 ∷ []) [];
+      buffer = blank 5;
+      reply = refused 28 0;
+      table-left = pos 5 ∷ pos 40 ∷ pos 6 ∷ pos 6 ∷ pos 0 ∷ pos 0 ∷ pos 30 ∷ neg 4 ∷ neg 4 ∷ pos 0 ∷ [];
+      buffer-left = blank 5;
+      printed = [];
+    }
+
+-- 28 after 10.
+abbrev pub limit-lag : Case
+limit-lag =
+    record {
+      call = planner (neg 1);
+      job = job (pos 6) (pos 0 ∷ pos 10 ∷ pos 0 ∷ pos 1 ∷ []) (pos 0 ∷ pos 6 ∷ pos 0 ∷ pos 0 ∷ pos 0 ∷ pos 0 ∷ pos 6 ∷ pos 0 ∷ pos 0 ∷ pos 0 ∷ []) (pos 0 ∷ pos 1 ∷ pos 20001 ∷ []) [];
+      buffer = blank 5;
+      reply = refused 10 0;
+      table-left = pos 0 ∷ pos 6 ∷ pos 0 ∷ pos 0 ∷ pos 0 ∷ pos 0 ∷ pos 6 ∷ pos 0 ∷ pos 0 ∷ pos 0 ∷ [];
+      buffer-left = blank 5;
+      printed = [];
+    }
+
+-- 28 before 31.
+abbrev pub limit-set : Case
+limit-set =
+    record {
+      call = planner (neg 1);
+      job = job (pos 6) (pos 0 ∷ pos 10 ∷ pos 0 ∷ pos 1 ∷ []) (pos 0 ∷ pos 6 ∷ pos 0 ∷ pos 0 ∷ pos 0 ∷ pos 0 ∷ pos 6 ∷ pos 0 ∷ pos 0 ∷ pos 0 ∷ []) [] (pos 0 ∷ []);
+      buffer = blank 5;
+      reply = refused 28 0;
+      table-left = pos 0 ∷ pos 6 ∷ pos 0 ∷ pos 0 ∷ pos 0 ∷ pos 0 ∷ pos 6 ∷ pos 0 ∷ pos 0 ∷ pos 0 ∷ [];
+      buffer-left = blank 5;
+      printed = [];
+    }
+
+-- 28 before 11.
+abbrev pub limit-room : Case
+limit-room =
+    record {
+      call = planner (neg 1);
+      job = standard (pos 0) (pos 5 ∷ pos 40 ∷ pos 6 ∷ pos 6 ∷ pos 0 ∷ pos 0 ∷ pos 30 ∷ neg 4 ∷ neg 4 ∷ pos 0 ∷ []) [];
+      buffer = pos 77 ∷ pos 77 ∷ [];
+      reply = refused 28 0;
+      table-left = pos 5 ∷ pos 40 ∷ pos 6 ∷ pos 6 ∷ pos 0 ∷ pos 0 ∷ pos 30 ∷ neg 4 ∷ neg 4 ∷ pos 0 ∷ [];
+      buffer-left = pos 77 ∷ pos 77 ∷ [];
       printed = [];
     }
 
@@ -666,9 +876,25 @@ pub record Cases : Type 0 where
   pub set-stranger-right : Right set-stranger
   pub set-turned-right : Right set-turned
   pub rule-15-right : Right rule-15
+  pub crawl-right : Right crawl
+  pub crawl-last-right : Right crawl-last
+  pub crawl-more-right : Right crawl-more
+  pub crawl-cut-right : Right crawl-cut
+  pub crawl-read-right : Right crawl-read
+  pub crawl-one-right : Right crawl-one
+  pub crawl-room-right : Right crawl-room
+  pub k1-one-right : Right k1-one
+  pub k1-two-right : Right k1-two
+  pub k1-high-right : Right k1-high
+  pub still-one-right : Right still-one
+  pub limit-negative-right : Right limit-negative
+  pub limit-over-right : Right limit-over
+  pub limit-lag-right : Right limit-lag
+  pub limit-set-right : Right limit-set
+  pub limit-room-right : Right limit-room
 
 pub all-right : Cases
-unfolding plan check questions own-questions each run made agenda each-of attempt acted premise-list slip-words premise-words quotes quoted any every begun set-begin others finding earliest sure-part most-in sum windows premises-at whole slip-at reading premises-fit names all-true narrowed gives slip-questions read-from read-all job-text numbers-behind digits-value job-of next-sets slip-room event-lines line-of integer numeral last-digits
+unfolding plan check plan-questions questions own-questions each run made agenda each-of attempt acted premise-list slip-words premise-words quotes quoted any every begun set-begin others finding earliest sure-part most-in sum windows premises-at whole slip-at reading premises-fit names all-true narrowed gives slip-questions read-from read-all job-text numbers-behind digits-value job-of next-sets slip-room event-lines line-of integer numeral last-digits
 all-right =
     record {
       k1-right = refl;
@@ -715,4 +941,20 @@ all-right =
       set-stranger-right = refl;
       set-turned-right = refl;
       rule-15-right = refl;
+      crawl-right = refl;
+      crawl-last-right = refl;
+      crawl-more-right = refl;
+      crawl-cut-right = refl;
+      crawl-read-right = refl;
+      crawl-one-right = refl;
+      crawl-room-right = refl;
+      k1-one-right = refl;
+      k1-two-right = refl;
+      k1-high-right = refl;
+      still-one-right = refl;
+      limit-negative-right = refl;
+      limit-over-right = refl;
+      limit-lag-right = refl;
+      limit-set-right = refl;
+      limit-room-right = refl;
     }

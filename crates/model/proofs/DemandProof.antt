@@ -221,14 +221,14 @@ demand3 j =
     }
 
 -- So every legal plan lies inside the windows that the planner leaves, and there is none where it says conflict.
-module _ (j : Job) (buffer : List ℤ) (v : Verdict) (slips rounds len : ℕ) (answer : plan j buffer .reply ≡ done v slips rounds len) where
-  replayed-list : Acceptance j (take len (plan j buffer .buffer)) (echoed v)
+module _ (j : Job) (limit : ℤ) (buffer : List ℤ) (v : Verdict) (slips rounds len : ℕ) (answer : plan j limit buffer .reply ≡ done v slips rounds len) where
+  replayed-list : Acceptance j (take len (plan j limit buffer .buffer)) (echoed v)
   replayed-list =
       let d = demand3 j in
-      d .sound (take len (plan j buffer .buffer)) (echoed v) 0 0 0 (d .complete buffer v slips rounds len answer .reply)
+      d .sound (take len (plan j limit buffer .buffer)) (echoed v) 0 0 0 (d .complete limit buffer v slips rounds len answer .reply)
 
-  pub planner-keeps : (p : Schedule) → LegalPlan j p → Inside (events j) (windows (plan j buffer .table)) (value p)
-  planner-keeps p l = rw (demand3 j .complete buffer v slips rounds len answer .same-table) at (replayed-list .keeps p l)
+  pub planner-keeps : (p : Schedule) → LegalPlan j p → Inside (events j) (windows (plan j limit buffer .table)) (value p)
+  planner-keeps p l = rw (demand3 j .complete limit buffer v slips rounds len answer .same-table) at (replayed-list .keeps p l)
 
   pub planner-clash : v ≡ conflict → (p : Schedule) → LegalPlan j p → ⊥
   planner-clash e p l = replayed-list .clash (ap echoed e) p l

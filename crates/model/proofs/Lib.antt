@@ -16,6 +16,8 @@ pub mod Sweeps
 pub mod Silence
 pub mod Written
 pub mod Rounds
+pub mod LimitProof
+pub mod LimitPlan
 pub mod Sound
 pub mod Adding
 pub mod Agree

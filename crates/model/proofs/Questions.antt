@@ -16,7 +16,7 @@ use Rattle.integers.proofs.Linear.{ints}
 use Rattle.integers.proofs.Tests.{and-out, and-in, or-out}
 use Rattle.model.specs.Job.{End, t-min, t-max, h-min, h-max, meets, widest, produces, consumes, Job, lags, lag-word, events, sent, windows, cages, cage, cage-word, Reservoir, sets, every, set-begin, set-word, member-count, member-word, begun, to-count}
 use Rattle.model.specs.Standing.{Sane, Standing, SaneCage, SaneLag, SaneSet}
-use Rattle.model.specs.Questions.{Check, pass, refuse, ask, each, in-range, is-event, times-right, heights-right, lag-events, lag-differs, lag-in-range, limit-in-range, questions, _then_, horizon-right, limits-right, stock-right, events-whole, lags-whole, room-right, own-questions, cage-questions, window-questions, lag-questions, cover-right, cages-whole, cage-right, set-whole, members-right, member-right, totals-right, total-in-range, set-questions}
+use Rattle.model.specs.Questions.{Check, pass, refuse, ask, each, in-range, is-event, times-right, heights-right, lag-events, lag-differs, lag-in-range, limit-in-range, questions, _then_, horizon-right, limits-right, stock-right, events-whole, lags-whole, room-right, own-questions, cage-questions, window-questions, lag-questions, cover-right, cages-whole, cage-right, set-whole, members-right, member-right, totals-right, total-in-range, first-questions, plan-questions, limit-right, last-questions}
 use Rattle.model.proofs.Order.{event-below}
 
 -- ---- checks
@@ -179,9 +179,9 @@ answers j e =
     let m = lags j in
     let ss = j .set-table in
     let s = sets j in
-    let g1 = then-out (cage-questions h cs) _ e in
-    let g2 = then-out (window-questions h k table) _ (g1 .1) in
-    let g3 = then-out (lag-questions n ws) (set-questions n ss) (g2 .1) in
+    let parts = then-out (first-questions j) (last-questions j) e in
+    let g1 = then-out (cage-questions h cs) _ (parts .0) in
+    let g2 = then-out (window-questions h k table) (lag-questions n ws) (g1 .1) in
     let a1 = then-out (ask 1 (horizon-right h)) _ (g1 .0) in
     let a29 = then-out (ask 29 (cages-whole cs)) _ (a1 .1) in
     let a2 = then-out (each 2 (λ c. limits-right (cage j c)) 0 k) _ (a29 .1) in
@@ -189,10 +189,10 @@ answers j e =
     let a4 = then-out (ask 4 (events-whole table)) _ (g2 .0) in
     let a5 = then-out (each 5 (times-right h (windows table)) 0 n) _ (a4 .1) in
     let a6 = then-out (each 6 (heights-right (windows table)) 0 n) (each 30 (cage-right k table) 0 n) (a5 .1) in
-    let a7 = then-out (ask 7 (lags-whole ws)) _ (g3 .0) in
+    let a7 = then-out (ask 7 (lags-whole ws)) _ (g2 .1) in
     let a8 = then-out (each 8 (lag-events n ws) 0 m) _ (a7 .1) in
     let a9 = then-out (each 9 (lag-differs ws) 0 m) (each 10 (lag-in-range ws) 0 m) (a8 .1) in
-    let a31 = then-out (each 31 (set-whole ss) 0 s) _ (g3 .1) in
+    let a31 = then-out (each 31 (set-whole ss) 0 s) _ (parts .1) in
     let a32 = then-out (each 32 (members-right n ss) 0 s) (each 33 (totals-right ss) 0 s) (a31 .1) in
     record {
       q1 = ask-out 1 (horizon-right h) (a1 .0);
@@ -219,6 +219,22 @@ unfolding questions
 asked-again j room other e l m =
     then-in (own-questions j) (ask 11 (room-right other)) (then-out (own-questions j) _ e .0)
     (ask-in 11 (room-right other) (and-in (leb 3 other) (leb other 1000000) (le→leb 3 other l) (le→leb other 1000000 m)))
+
+-- The planner's questions are those of the reader and 28.
+pub limit-asked : (j : Job) (limit : ℤ) (room : ℕ) → plan-questions j limit room ≡ pass → (questions j room ≡ pass) × T (limit-right limit)
+unfolding plan-questions questions own-questions
+limit-asked j limit room e =
+    let a = then-out (first-questions j) _ e in
+    let b = then-out (ask 28 (limit-right limit)) _ (a .1) in
+    let c = then-out (last-questions j) _ (b .1) in
+    (then-in (own-questions j) (ask 11 (room-right room)) (then-in (first-questions j) (last-questions j) (a .0) (c .0)) (c .1), ask-out 28 (limit-right limit) (b .0))
+
+pub limit-asks : (j : Job) (limit : ℤ) (room : ℕ) → questions j room ≡ pass → T (limit-right limit) → plan-questions j limit room ≡ pass
+unfolding plan-questions questions own-questions
+limit-asks j limit room e t =
+    let a = then-out (own-questions j) _ e in
+    let b = then-out (first-questions j) (last-questions j) (a .0) in
+    then-in (first-questions j) _ (b .0) (then-in (ask 28 (limit-right limit)) _ (ask-in 28 (limit-right limit) t) (then-in (last-questions j) _ (b .1) (a .1)))
 
 event-sign : (n : ℕ) (w : ℤ) → T (is-event n w) → pos 0 ≤ℤ w
 event-sign n w t = record { le = and-out (leZ (pos 0) w) (ltZ w (pos n)) t .0 }

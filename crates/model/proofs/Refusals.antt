@@ -5,19 +5,20 @@ use mathlib.Core.Bool.{Bool, true, false, cond}
 use mathlib.Core.List.{List, _++_}
 use Prim.Native.Nat.{ℕ, zero, suc, _+_, _≤_}
 use native.Mathlib.Omega.{arith}
-use lib.IntN.{ℤ}
+use lib.IntN.{ℤ, natAbs}
 use lib.ListN.{length, take, drop, set, length-append, length-drop, length-set}
 use lib.Seq.{take-append-add, drop-append-add}
 use Rattle.model.specs.Job.{slot, Windows, windows, Job}
 use Rattle.model.specs.Rules.{own-end}
 use Rattle.model.specs.Slips.{Explanation, trailer, rule-of, target-of}
-use Rattle.model.specs.Rounds.{Verdict, State, Run, run, start}
-use Rattle.model.specs.Questions.{Check, pass, refuse, questions, _then_, ask}
-use Rattle.model.specs.Planner.{Reply, refused, done, Outcome, written, planned, plan}
+use Rattle.model.specs.Rounds.{Verdict, State, Run}
+use Rattle.model.specs.Questions.{Check, pass, refuse, questions, _then_, ask, plan-questions}
+use Rattle.model.specs.Planner.{Reply, refused, done, Outcome, written, planned, plan, limited}
 use Rattle.model.specs.Reader.{Reading, slip, cut, reading, is-conflict, slip-questions, applied, Read, read-from, marked, ends-right, read-all, accepted, judged, check}
 use Rattle.model.specs.Demand.{Untouched}
-use Rattle.model.proofs.Questions.{asked}
-use Rattle.model.proofs.Rounds.{Finished, plan-finished}
+use Rattle.model.proofs.Questions.{asked, limit-asked}
+use Rattle.model.proofs.Rounds.{Finished}
+use Rattle.model.proofs.LimitProof.{limited-finished}
 
 -- A refusal is no answer.
 pub not-done : {A : Type 0} {o : Reply} {number place slips rounds len : ℕ} {v : Verdict} → o ≡ refused number place → o ≡ done v slips rounds len → A
@@ -77,68 +78,68 @@ module _ (j : Job) where
   abbrev asks : ℕ → Check
   asks room = questions j room
 
-  -- The run of a call with a slip buffer.
-  abbrev pub run-in : List ℤ → Run
-  run-in buffer = run (length buffer) j (length buffer) 0 (start (j .window-table))
+  -- The run of a call with a round limit and a slip buffer.
+  abbrev pub run-in : ℤ → List ℤ → Run
+  run-in limit buffer = limited (natAbs limit) (length buffer) j
 
   -- ---- the planner
 
-  module _ (buffer : List ℤ) where
+  module _ (limit : ℤ) (buffer : List ℤ) where
     -- A call goes by its questions.
-    pub plan-refused : (number place : ℕ) → asks (length buffer) ≡ refuse number place → plan j buffer ≡ record { reply = refused number place; table = j .window-table; buffer = buffer }
+    pub plan-refused : (number place : ℕ) → plan-questions j limit (length buffer) ≡ refuse number place → plan j limit buffer ≡ record { reply = refused number place; table = j .window-table; buffer = buffer }
     unfolding plan
     plan-refused number place e = rw (e, plan)
 
-    pub plan-planned : asks (length buffer) ≡ pass → plan j buffer ≡ planned (run-in buffer) buffer
+    pub plan-planned : plan-questions j limit (length buffer) ≡ pass → plan j limit buffer ≡ planned (run-in limit buffer) buffer
     unfolding plan
     plan-planned e = rw (e, plan)
 
     -- A call that passed its questions is done.
-    pub plan-takes : asks (length buffer) ≡ pass → (v : Verdict) × (slips : ℕ) × (rounds : ℕ) × (len : ℕ) × (plan j buffer .reply ≡ done v slips rounds len)
+    pub plan-takes : plan-questions j limit (length buffer) ≡ pass → (v : Verdict) × (slips : ℕ) × (rounds : ℕ) × (len : ℕ) × (plan j limit buffer .reply ≡ done v slips rounds len)
     plan-takes e =
-        let r = run-in buffer in
+        let r = run-in limit buffer in
         (r .verdict, r .state .slips, r .rounds, length (r .state .log) + 3, ap (λ (o : Outcome). o .reply) (plan-planned e))
 
     -- A call that is done passed its questions.
-    pub plan-passed : (v : Verdict) (slips rounds len : ℕ) → plan j buffer .reply ≡ done v slips rounds len → asks (length buffer) ≡ pass
-    plan-passed v slips rounds len e = go (asks (length buffer)) refl
+    pub plan-passed : (v : Verdict) (slips rounds len : ℕ) → plan j limit buffer .reply ≡ done v slips rounds len → plan-questions j limit (length buffer) ≡ pass
+    plan-passed v slips rounds len e = go (plan-questions j limit (length buffer)) refl
       where
-        go : (c : Check) → asks (length buffer) ≡ c → asks (length buffer) ≡ pass
+        go : (c : Check) → plan-questions j limit (length buffer) ≡ c → plan-questions j limit (length buffer) ≡ pass
         go pass f = f
         go (refuse number place) f = not-done (ap (λ (o : Outcome). o .reply) (plan-refused number place f)) e
 
     -- A refused call changes no lent word.
-    pub planner-refuses : (number place : ℕ) → plan j buffer .reply ≡ refused number place → Untouched j buffer (plan j buffer)
-    planner-refuses number place e = go (asks (length buffer)) refl
+    pub planner-refuses : (number place : ℕ) → plan j limit buffer .reply ≡ refused number place → Untouched j buffer (plan j limit buffer)
+    planner-refuses number place e = go (plan-questions j limit (length buffer)) refl
       where
-        go : (c : Check) → asks (length buffer) ≡ c → Untouched j buffer (plan j buffer)
+        go : (c : Check) → plan-questions j limit (length buffer) ≡ c → Untouched j buffer (plan j limit buffer)
         go pass f = not-done e (ap (λ (o : Outcome). o .reply) (plan-planned f))
         go (refuse n i) f = rw (plan-refused n i f) (record { same-table = refl; same-buffer = refl })
 
     -- The run of a call that passed its questions.
-    pub run-finished : asks (length buffer) ≡ pass → Finished (length buffer) j 0 0 (run-in buffer)
+    pub run-finished : plan-questions j limit (length buffer) ≡ pass → Finished (length buffer) j 0 0 (run-in limit buffer)
     run-finished e =
-        let a = asked j (length buffer) e in
-        plan-finished (length buffer) j (a .sane) (a .whole-events) (a .standing) (a .room-low)
+        let a = asked j (length buffer) (limit-asked j limit (length buffer) e .0) in
+        limited-finished (length buffer) j (a .sane) (a .whole-events) (a .standing) (a .room-low) (natAbs limit)
 
     -- The lent tables keep their lengths.
-    pub plan-lengths : (length (plan j buffer .table) ≡ length (j .window-table)) × (length (plan j buffer .buffer) ≡ length buffer)
-    plan-lengths = go (asks (length buffer)) refl
+    pub plan-lengths : (length (plan j limit buffer .table) ≡ length (j .window-table)) × (length (plan j limit buffer .buffer) ≡ length buffer)
+    plan-lengths = go (plan-questions j limit (length buffer)) refl
       where
-        go : (c : Check) → asks (length buffer) ≡ c → (length (plan j buffer .table) ≡ length (j .window-table)) × (length (plan j buffer .buffer) ≡ length buffer)
+        go : (c : Check) → plan-questions j limit (length buffer) ≡ c → (length (plan j limit buffer .table) ≡ length (j .window-table)) × (length (plan j limit buffer .buffer) ≡ length buffer)
         go pass f =
             let k = run-finished f .kept in
-            let a = asked j (length buffer) f in
-            rw (plan-planned f) (k .whole ∙ sym (a .whole-events), written-length (run-in buffer .state) buffer (k .trailer-fits))
+            let a = asked j (length buffer) (limit-asked j limit (length buffer) f .0) in
+            rw (plan-planned f) (k .whole ∙ sym (a .whole-events), written-length (run-in limit buffer .state) buffer (k .trailer-fits))
         go (refuse n i) f = rw (plan-refused n i f) (refl, refl)
 
     -- Words after the written trailer keep what they held, and the list fits the room.
-    pub plan-rest : (v : Verdict) (slips rounds len : ℕ) → plan j buffer .reply ≡ done v slips rounds len →
-        (drop len (plan j buffer .buffer) ≡ drop len buffer) × (3 ≤ len) × (len ≤ length buffer)
+    pub plan-rest : (v : Verdict) (slips rounds len : ℕ) → plan j limit buffer .reply ≡ done v slips rounds len →
+        (drop len (plan j limit buffer .buffer) ≡ drop len buffer) × (3 ≤ len) × (len ≤ length buffer)
     plan-rest v slips rounds len e =
         let f = plan-passed v slips rounds len e in
-        let s = run-in buffer .state in
-        let d : planned (run-in buffer) buffer .reply ≡ done v slips rounds len = rw (plan-planned f) at e in
+        let s = run-in limit buffer .state in
+        let d : planned (run-in limit buffer) buffer .reply ≡ done v slips rounds len = rw (plan-planned f) at e in
         let l : length (s .log) + 3 ≡ len = cc in
         rw (plan-planned f, ← l) (rest-kept s buffer, omega arith, run-finished f .kept .trailer-fits)
 

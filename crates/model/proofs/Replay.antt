@@ -19,12 +19,12 @@ use Rattle.model.specs.Questions.{pass, questions}
 use Rattle.model.specs.Planner.{done, Outcome, written, planned, plan}
 use Rattle.model.specs.Reader.{slip, reading, names, all-true, narrowed, gives, is-conflict, fits-there, slip-questions, applied, Read, read-from, stop-of, counted, marked, ends-right, read-all, accepted, judged, check}
 use Rattle.model.specs.Demand.{listed, echoed, Replay}
-use Rattle.model.proofs.Questions.{then-in, ask-in, asked, asked-again}
+use Rattle.model.proofs.Questions.{then-in, ask-in, asked, asked-again, limit-asked}
 use Rattle.model.proofs.Words.{All-formed, reading-back}
 use Rattle.model.proofs.Suffice.{slip-passes}
 use Rattle.model.proofs.Table.{narrows-bound, bound-narrows}
 use Rattle.model.proofs.Written.{Wrote, narrows-kind, replayed, Written, Conflict-last, conflicting-after, narrowings-open, wrote-standing}
-use Rattle.model.proofs.Rounds.{Kept, Verdict-fits, Finished}
+use Rattle.model.proofs.Rounds.{Kept, Verdict-fits, Finished, halted-open}
 use Rattle.model.proofs.Refusals.{list-written, run-in, plan-planned, plan-passed, run-finished, plan-rest, check-judged}
 
 -- ---- a list and its trailer
@@ -145,7 +145,7 @@ module _ (j : Job) (sane : Sane j) (whole : length (j .window-table) ≡ 5 * eve
 verdict-read : (room : ℕ) (j : Job) (v : Verdict) (s : State) (k : Kept room j s) → Verdict-fits room j v s → accepted (conflicting-after false (k .slips-written)) ≡ echoed v
 verdict-read room j settled s k f = ap accepted (narrowings-open (k .slips-written) (rw (f .0) at (k .status-fits)))
 verdict-read room j conflict s k f = ap accepted (is-true (conflicting-after false (k .slips-written)) (rw f at (k .status-fits)))
-verdict-read room j stopped s k f = ap accepted (narrowings-open (k .slips-written) (rw f at (k .status-fits)))
+verdict-read room j stopped s k f = ap accepted (narrowings-open (k .slips-written) (halted-open (s .status) (k .slips-written) f (k .status-fits)))
 verdict-read room j still-open s k f = absurd f
 
 -- The list of a state: its log with the trailer.
@@ -178,25 +178,25 @@ module _ (j : Job) where
       ∙ judge
       ∙ outcome-path (verdict-read room j (r .verdict) s k (f .verdict-fits)) (sym (k .table-is)) (sym is)
 
-  module _ (buffer : List ℤ) (v : Verdict) (slips rounds len : ℕ) (answer : plan j buffer .reply ≡ done v slips rounds len) where
+  module _ (limit : ℤ) (buffer : List ℤ) (v : Verdict) (slips rounds len : ℕ) (answer : plan j limit buffer .reply ≡ done v slips rounds len) where
     -- What the planner wrote, the reader accepts, with the same windows, and says conflict exactly when the planner did.
-    pub replay : check j (take len (plan j buffer .buffer))
-        ≡ record { reply = done (echoed v) 0 0 0; table = plan j buffer .table; buffer = take len (plan j buffer .buffer) }
+    pub replay : check j (take len (plan j limit buffer .buffer))
+        ≡ record { reply = done (echoed v) 0 0 0; table = plan j limit buffer .table; buffer = take len (plan j limit buffer .buffer) }
     replay =
-        let e = plan-passed j buffer v slips rounds len answer in
-        let r = run-in j buffer in
-        let p = plan-planned j buffer e in
+        let e = plan-passed j limit buffer v slips rounds len answer in
+        let r = run-in j limit buffer in
+        let p = plan-planned j limit buffer e in
         let d : planned r buffer .reply ≡ done v slips rounds len = rw p at answer in
         let l : length (r .state .log) + 3 ≡ len = cc in
         let w : r .verdict ≡ v = cc in
-        let f = finished-replays (length buffer) 0 0 r e (run-finished j buffer e) in
+        let f = finished-replays (length buffer) 0 0 r (limit-asked j limit (length buffer) e .0) (run-finished j limit buffer e) in
         rw (p, ← l, ← w, list-written (r .state) buffer) f
 
     -- The same as demand 3 states it.
-    pub complete : Replay j buffer v len
+    pub complete : Replay j limit buffer v len
     complete =
         record {
-          fits = plan-rest j buffer v slips rounds len answer .2;
+          fits = plan-rest j limit buffer v slips rounds len answer .2;
           reply = ap (λ (o : Outcome). o .reply) replay;
           same-table = ap (λ (o : Outcome). o .table) replay;
         }

@@ -202,11 +202,26 @@ module _ (room : ℕ) (j : Job) where
     run-fuel fuel more n s k enough =
         runs-unique (run room j (fuel + more) n s) (run room j fuel n s) n s (run-runs (fuel + more) n s k (omega arith)) (run-runs fuel n s k enough)
 
+-- Stopped by the room, or by a round limit while the call would go on.
+abbrev pub Halted : Status → Type 0
+Halted running = Unit {0}
+Halted (ended settled) = ⊥
+Halted (ended conflict) = ⊥
+Halted (ended stopped) = Unit {0}
+Halted (ended still-open) = ⊥
+
+pub halted-open : (x : Status) (xs : List Explanation) → Halted x → Status-fits x xs → Narrowings xs
+halted-open running xs h f = f
+halted-open (ended settled) xs h f = absurd h
+halted-open (ended conflict) xs h f = absurd h
+halted-open (ended stopped) xs h f = f
+halted-open (ended still-open) xs h f = absurd h
+
 -- What a verdict says of the state at the end. Settled: a whole round from there changes nothing.
 abbrev pub Verdict-fits : ℕ → Job → Verdict → State → Type 0
 Verdict-fits room j settled s = (s .status ≡ running) × (round room j s ≡ s)
 Verdict-fits room j conflict s = s .status ≡ ended conflict
-Verdict-fits room j stopped s = s .status ≡ ended stopped
+Verdict-fits room j stopped s = Halted (s .status)
 Verdict-fits room j still-open s = ⊥
 
 -- How a run ends that was sent a window table, from a state with n rounds begun and m slips written.
@@ -220,7 +235,7 @@ module _ (room : ℕ) (j : Job) (sane : Sane j) where
   closed-fits : (s : State) (v : Verdict) → Kept room j s → s .status ≡ ended v → Verdict-fits room j v s
   closed-fits s settled k off = absurd (rw off at (k .status-fits))
   closed-fits s conflict k off = off
-  closed-fits s stopped k off = off
+  closed-fits s stopped k off = rw off tt
   closed-fits s still-open k off = absurd (rw off at (k .status-fits))
 
   -- What the end of a run says.

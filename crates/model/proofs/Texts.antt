@@ -12,39 +12,40 @@ use Rattle.model.specs.Text.{Parsed, parsed, malformed, bytes, digits-va
 use Rattle.model.specs.Print.{last-digits, numeral, integer, line-of, event-lines, printed}
 use Rattle.model.proofs.Abacus.{neg, job}
 
-abbrev pub said : String → Parsed Job
+abbrev pub said : String → Parsed (Job × ℤ)
 said text = job-text (bytes text)
 
--- A text and the job that it says.
+-- A text, and the job and the limit that it says.
 pub record Example : Type 0 where
   pub text : String
-  pub says : Parsed Job
+  pub says : Parsed (Job × ℤ)
 
 abbrev pub examples : List Example
 examples =
     -- K8 of document 01, with its lag
     record {
       text = "100 1 0 10 0 1 2 1\n0 10 0 0 0\n0 6 0 0 0\n0 1 -2\n0";
-      says = parsed (job (pos 100) (pos 0 ∷ pos 10 ∷ pos 0 ∷ pos 1 ∷ []) (pos 0 ∷ pos 10 ∷ pos 0 ∷ pos 0 ∷ pos 0 ∷ pos 0 ∷ pos 6 ∷ pos 0 ∷ pos 0 ∷ pos 0 ∷ []) (pos 0 ∷ pos 1 ∷ neg 2 ∷ []) []);
+      says = parsed (job (pos 100) (pos 0 ∷ pos 10 ∷ pos 0 ∷ pos 1 ∷ []) (pos 0 ∷ pos 10 ∷ pos 0 ∷ pos 0 ∷ pos 0 ∷ pos 0 ∷ pos 6 ∷ pos 0 ∷ pos 0 ∷ pos 0 ∷ []) (pos 0 ∷ pos 1 ∷ neg 2 ∷ []) [], pos 40);
     }
     -- two cages, an event of the second
     ∷ record {
       text = "9 2\n0 1 2 3\n4 5 6 7\n1 0\n0 9 8 8 1\n0\n";
-      says = parsed (job (pos 9) (pos 0 ∷ pos 1 ∷ pos 2 ∷ pos 3 ∷ pos 4 ∷ pos 5 ∷ pos 6 ∷ pos 7 ∷ []) (pos 0 ∷ pos 9 ∷ pos 8 ∷ pos 8 ∷ pos 1 ∷ []) [] []);
+      says = parsed (job (pos 9) (pos 0 ∷ pos 1 ∷ pos 2 ∷ pos 3 ∷ pos 4 ∷ pos 5 ∷ pos 6 ∷ pos 7 ∷ []) (pos 0 ∷ pos 9 ∷ pos 8 ∷ pos 8 ∷ pos 1 ∷ []) [] [], pos 40);
     }
     -- two sets, of two members and of none
     ∷ record {
       text = "9 1 0 1 2 3 0 0\n2\n-5 6 2 7 8\n1 2 0\n";
-      says = parsed (job (pos 9) (pos 0 ∷ pos 1 ∷ pos 2 ∷ pos 3 ∷ []) [] [] (neg 5 ∷ pos 6 ∷ pos 2 ∷ pos 7 ∷ pos 8 ∷ pos 1 ∷ pos 2 ∷ pos 0 ∷ []));
+      says = parsed (job (pos 9) (pos 0 ∷ pos 1 ∷ pos 2 ∷ pos 3 ∷ []) [] [] (neg 5 ∷ pos 6 ∷ pos 2 ∷ pos 7 ∷ pos 8 ∷ pos 1 ∷ pos 2 ∷ pos 0 ∷ []), pos 40);
     }
     -- blanks, tabs and line ends in any number; leading zeros and "-0"; both ends of 32 bits
     ∷ record {
       text = " \t\r\n007 01 -0  2147483647\t-2147483648\r\n00 00 -00 \n-0";
-      says = parsed (job (pos 7) (pos 0 ∷ pos 2147483647 ∷ neg 2147483648 ∷ pos 0 ∷ []) [] [] []);
+      says = parsed (job (pos 7) (pos 0 ∷ pos 2147483647 ∷ neg 2147483648 ∷ pos 0 ∷ []) [] [] [], pos 40);
     }
+    -- a round limit
     ∷ record {
-      text = "0000000000000000000000000000000000000001 1 0 0 0 2 0 0 0";
-      says = parsed (job (pos 1) (pos 0 ∷ pos 0 ∷ pos 0 ∷ pos 2 ∷ []) [] [] []);
+      text = "0000000000000000000000000000000000000001 1 0 0 0 2 0 0 0 -7";
+      says = parsed (job (pos 1) (pos 0 ∷ pos 0 ∷ pos 0 ∷ pos 2 ∷ []) [] [] [], neg 7);
     }
     ∷ []
 
@@ -69,7 +70,7 @@ malformed-texts =
     ∷ "5,0 1 0 0 0 0 0 0 0"
     -- too few, too many
     ∷ "0 1 0 0 0 0 0 0"
-    ∷ "0 1 0 0 0 0 0 0 0 0"
+    ∷ "0 1 0 0 0 0 0 0 0 0 0"
     ∷ "0 1 0 0 0 0 1 0 1 1 1 1 0"
     ∷ "0 2 0 0 0 0 0 0 0"
     ∷ "0 1 0 0 0 0 0 0 1 5 6 2 7"

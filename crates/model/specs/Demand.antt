@@ -11,7 +11,7 @@ use Rattle.model.specs.Job.{windows, widest, Job, Schedule, value, Insid
 use Rattle.model.specs.Slips.{Premise, Explanation, slip-length, log-words, last-begins, trailer, premise-count, slip-at}
 use Rattle.model.specs.Agenda.{Each}
 use Rattle.model.specs.Rounds.{Verdict, settled, conflict, stopped, still-open}
-use Rattle.model.specs.Questions.{pass, questions}
+use Rattle.model.specs.Questions.{pass, plan-questions}
 use Rattle.model.specs.Planner.{refused, done, Outcome, plan}
 use Rattle.model.specs.Reader.{counted, names, is-conflict, accepted, check}
 
@@ -65,8 +65,9 @@ echoed still-open = still-open
 
 -- The job: every word of a call but the slip buffer.
 module _ (j : Job) where
-  abbrev pub planner : List ℤ → Outcome
-  planner buffer = plan j buffer
+  -- The planner's round limit stands apart from the job.
+  abbrev pub planner : ℤ → List ℤ → Outcome
+  planner limit buffer = plan j limit buffer
 
   abbrev pub reader : List ℤ → Outcome
   reader list = check j list
@@ -98,10 +99,10 @@ module _ (j : Job) where
     pub unchanged : reader list .buffer ≡ list
 
   -- What the planner wrote, len words saying v, the reader accepts: it says conflict exactly when the planner did, and leaves every word of the window table as the planner left it.
-  pub record Replay (buffer : List ℤ) (v : Verdict) (len : ℕ) : Type 0 where
+  pub record Replay (limit : ℤ) (buffer : List ℤ) (v : Verdict) (len : ℕ) : Type 0 where
     pub fits : len ≤ length buffer
-    pub reply : reader (take len (planner buffer .buffer)) .reply ≡ done (echoed v) 0 0 0
-    pub same-table : reader (take len (planner buffer .buffer)) .table ≡ planner buffer .table
+    pub reply : reader (take len (planner limit buffer .buffer)) .reply ≡ done (echoed v) 0 0 0
+    pub same-table : reader (take len (planner limit buffer .buffer)) .table ≡ planner limit buffer .table
 
   -- A refusal changes no lent word.
   pub record Untouched (buffer : List ℤ) (o : Outcome) : Type 0 where
@@ -113,9 +114,9 @@ module _ (j : Job) where
   pub record Demand3 : Type 0 where
     -- Whatever words the list holds and whoever wrote them.
     pub sound : (list : List ℤ) (v : Verdict) (slips rounds len : ℕ) → reader list .reply ≡ done v slips rounds len → Acceptance list v
-    -- For every job that the planner takes, whatever slip room it has and whether it answers settled, conflict or stopped.
-    pub complete : (buffer : List ℤ) (v : Verdict) (slips rounds len : ℕ) → planner buffer .reply ≡ done v slips rounds len → Replay buffer v len
-    -- It takes every job that questions 1 to 11 let pass.
-    pub takes : (buffer : List ℤ) → questions j (length buffer) ≡ pass → (v : Verdict) × (slips : ℕ) × (rounds : ℕ) × (len : ℕ) × (planner buffer .reply ≡ done v slips rounds len)
+    -- For every job that the planner takes, whatever round limit and slip room it has and whether it answers settled, conflict or stopped.
+    pub complete : (limit : ℤ) (buffer : List ℤ) (v : Verdict) (slips rounds len : ℕ) → planner limit buffer .reply ≡ done v slips rounds len → Replay limit buffer v len
+    -- It takes every job that its questions let pass.
+    pub takes : (limit : ℤ) (buffer : List ℤ) → plan-questions j limit (length buffer) ≡ pass → (v : Verdict) × (slips : ℕ) × (rounds : ℕ) × (len : ℕ) × (planner limit buffer .reply ≡ done v slips rounds len)
     pub reader-refuses : (list : List ℤ) (number place : ℕ) → reader list .reply ≡ refused number place → Untouched list (reader list)
-    pub planner-refuses : (buffer : List ℤ) (number place : ℕ) → planner buffer .reply ≡ refused number place → Untouched buffer (planner buffer)
+    pub planner-refuses : (limit : ℤ) (buffer : List ℤ) (number place : ℕ) → planner limit buffer .reply ≡ refused number place → Untouched buffer (planner limit buffer)

@@ -14,3 +14,4 @@ pub mod Print
 pub mod Program
 pub mod Standing
 pub mod Demand
+pub mod Limit

@@ -15,9 +15,9 @@ unfoldable pub slip-room : List ℤ
 slip-room = replicate 16000 (pos 0)
 
 -- The planner's reply and the windows as they then stand; text otherwise formed is 20, place 0.
-abbrev pub answered : Parsed Job → List ℕ
-answered (parsed j) =
-    let o = plan j slip-room in
+abbrev pub answered : Parsed (Job × ℤ) → List ℕ
+answered (parsed x) =
+    let o = plan (x .0) (x .1) slip-room in
     printed (o .reply) (o .table)
 answered malformed = printed (refused 20 0) []
 

@@ -1,8 +1,8 @@
--- Document 01, "Questions put to a call": 1 to 11, which planner and reader both ask, each with its number and place.
+-- Document 01, "Questions put to a call": 1 to 11, which planner and reader both ask, and 28, the planner's alone; each with its number and place.
 use mathlib.Core.Bool.{Bool, true, false, not, cond, _&&_, _||_}
 use mathlib.Core.List.{List}
 use Prim.Native.Nat.{ℕ, zero, suc, _+_, _/_, _%_}
-use lib.Dec.{ltb, eqb, leb, ltb}
+use lib.Dec.{eqb, leb, ltb}
 use lib.IntN.{ℤ, pos, negsuc}
 use lib.ListN.{length}
 use lib.Signed.{leZ, ltZ}
@@ -97,6 +97,10 @@ lag-differs ws g = not (eqZ (lag-word ws g 0) (lag-word ws g 1))
 abbrev pub lag-in-range : List ℤ → ℕ → Bool
 lag-in-range ws g = in-range (negsuc 19999) (pos 20000) (lag-word ws g 2)
 
+-- 28. The round limit is in 0..1,000,000.
+abbrev pub limit-right : ℤ → Bool
+limit-right limit = in-range (pos 0) (pos 1000000) limit
+
 -- 31. A set is one of the first 16, and whole.
 abbrev pub set-whole : List ℤ → ℕ → Bool
 set-whole ws g = ltb g 16 && leb (set-begin ws (suc g)) (length ws)
@@ -155,14 +159,24 @@ set-questions n ws =
     then each 32 (members-right n ws) 0 (begun ws 17)
     then each 33 (totals-right ws) 0 (begun ws 17)
 
--- The job's own questions.
-unfoldable pub own-questions : Job → Check
-own-questions j =
+-- The job's own questions: first those up to the lags, then those of the sets.
+abbrev pub first-questions : Job → Check
+first-questions j =
     cage-questions (j .horizon) (j .cage-table)
     then window-questions (j .horizon) (cages j) (j .window-table)
     then lag-questions (events j) (j .lag-table)
-    then set-questions (events j) (j .set-table)
+
+abbrev pub last-questions : Job → Check
+last-questions j = set-questions (events j) (j .set-table)
+
+unfoldable pub own-questions : Job → Check
+own-questions j = first-questions j then last-questions j
 
 -- Questions 1 to 11: the job's own, then of the length of its slip buffer.
 unfoldable pub questions : Job → ℕ → Check
 questions j room = own-questions j then ask 11 (room-right room)
+
+-- The planner's questions: 28 too, after 10.
+unfoldable pub plan-questions : Job → ℤ → ℕ → Check
+plan-questions j limit room =
+    first-questions j then ask 28 (limit-right limit) then last-questions j then ask 11 (room-right room)

@@ -99,10 +99,11 @@ count-in least most (z ∷ ns) = cond (in-range (pos least) (pos most) z) (parse
 abbrev pub next-words : ℕ → Part (List ℤ)
 next-words k ns = cond (leb k (length ns)) (parsed (take k ns, drop k ns)) malformed
 
--- No number is left.
-abbrev pub at-end : {A : Type 0} → A → List ℤ → Parsed A
-at-end a [] = parsed a
-at-end a (z ∷ ns) = malformed
+-- The round limit, if one more number is left, 40 if none is; then no number is left.
+abbrev pub limit-at-end : {A : Type 0} → A → List ℤ → Parsed (A × ℤ)
+limit-at-end a [] = parsed (a, pos 40)
+limit-at-end a (z ∷ []) = parsed (a, z)
+limit-at-end a (z ∷ (w ∷ ns)) = malformed
 
 -- A part that takes no number.
 abbrev pub give : {A : Type 0} → A → Part A
@@ -124,8 +125,8 @@ next-sets (suc k) = do
   others ← next-sets k
   give (set ++ others)
 
--- The job that numbers say: H, the number of cages and their words, n m, then n events, m lags, the number of sets and their words.
-unfoldable pub job-of : List ℤ → Parsed Job
+-- The job that numbers say: H, the number of cages and their words, n m, then n events, m lags, the number of sets and their words; and its round limit.
+unfoldable pub job-of : List ℤ → Parsed (Job × ℤ)
 job-of = do
   h ← next-number
   c ← count-in 1 8
@@ -136,8 +137,8 @@ job-of = do
   lags ← next-words (3 * m)
   s ← count-in 0 16
   sets ← next-sets s
-  at-end (record { horizon = h; cage-table = cages; window-table = windows; lag-table = lags; set-table = sets })
+  limit-at-end (record { horizon = h; cage-table = cages; window-table = windows; lag-table = lags; set-table = sets })
 
--- The job that a text says.
-unfoldable pub job-text : List ℕ → Parsed Job
+-- The job that a text says, and its round limit.
+unfoldable pub job-text : List ℕ → Parsed (Job × ℤ)
 job-text text = on (numbers-behind [] text) job-of
