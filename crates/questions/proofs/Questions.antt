@@ -1,7 +1,7 @@
 -- Tests joined by `&&` and `||` as the code's branches give them, and questions one after the other.
 -- Assumes nothing.
-use mathlib.Core.Path.{_≡_, refl}
-use mathlib.Core.List.{List}
+use mathlib.Core.Path.{_≡_, refl, sym}
+use mathlib.Core.List.{List, []}
 use mathlib.Core.Bool.{Bool, true, false, _&&_, _||_}
 use Prim.Native.Nat.{ℕ, zero, suc, _+_, _-_, _/_, _%_, _≤_, _<_}
 use native.Mathlib.Omega.{arith}
@@ -13,7 +13,9 @@ use Rattle.questions.specs.Asked.{check-of}
 use Rattle.questions.specs.declared.Check.{Check as Answer}
 use Rattle.questions.specs.declared.Check.the-variants.{Pass, Refuse}
 use Rattle.questions.specs.declared.Refusal.{Refusal}
-use Rattle.model.specs.Questions.{Check, pass, refuse, _then_, ask, each, horizon-right, cages-whole, cage-questions, window-questions}
+use Rattle.model.specs.Questions.{Check, pass, refuse, _then_, ask, each, horizon-right, cages-whole, cage-questions, window-questions, lag-questions, first-questions}
+use Rattle.model.proofs.Questions.{then-out}
+use Rattle.tables.specs.Job.{call}
 
 -- The second test counts where the first held, and not where it failed.
 pub and-yes : {x a : Bool} (b : Bool) → x ≡ a → x ≡ true → b ≡ (a && b)
@@ -110,3 +112,11 @@ few-cages h ws p q =
     let e = rw q at p in
     let t = passed 29 (cages-whole ws) _ (after 1 (horizon-right h) _ e) in
     omega (arith, leb-true (length ws) 32 (and-second (eqb (length ws % 4) 0 && leb 4 (length ws)) (leb (length ws) 32) t))
+
+-- Where those up to the lags' do, the job has at most 64 events.
+pub first-few : {x : Answer} (h : ℤ) (cages table lags : List ℤ) → check-of x ≡ first-questions (call h cages table lags []) → x ≡ Pass → length table / 5 ≤ 64
+first-few h cages table lags p q =
+    let e = rw q at p in
+    let w = then-out (cage-questions h cages) (window-questions h (length cages / 4) table then lag-questions (length table / 5) lags) (sym e) .1 in
+    let t = then-out (window-questions h (length cages / 4) table) (lag-questions (length table / 5) lags) w .0 in
+    few-events {x = Pass} h (length cages / 4) table (sym t) refl

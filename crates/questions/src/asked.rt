@@ -1,7 +1,8 @@
-// Questions 1 to 11, 22, 29, 30 and 31 to 33, which planner and reader both put to a call, in order; words are only compared, so that any word is harmless.
+// Questions 1 to 11, 22 and 28 to 33, which planner and reader put to a call, in order, 28 the planner alone; words are only compared, so that any word is harmless.
 use crate::Check;
 use crate::LEAST_ROOM;
 use crate::MOST_ROOM;
+use crate::MOST_ROUNDS;
 use crate::Refusal;
 use crate::asked_sets::set_questions;
 use tables::Height;
@@ -19,13 +20,14 @@ use tables::Word;
 use tables::cage_at;
 ghost use mathlib.Core.Path.{_≡_};
 ghost use mathlib.Core.Bool.{not, _&&_, _||_};
+ghost use mathlib.Core.List.{[]};
 ghost use Prim.Native.Nat.{_+_, _*_, _%_, _<_, _≤_};
 ghost use lib.Dec.{eqb, leb};
 ghost use lib.IntN.{pos, negsuc};
 ghost use lib.Signed.{leZ, ltZ};
 ghost use Rattle.integers.specs.Range.{eqZ};
 ghost use Rattle.model.specs.Job.{windows};
-ghost use Rattle.model.specs.Questions.{ask, each, refuse, in-range, horizon-right, limit-in-range, limits-right, stock-right, cover-right, cages-whole, times-right, heights-right, cage-right, lag-events, lag-differs, lag-in-range, room-right, cage-questions, window-questions, lag-questions, own-questions, questions};
+ghost use Rattle.model.specs.Questions.{ask, each, refuse, in-range, horizon-right, limit-in-range, limits-right, stock-right, cover-right, cages-whole, times-right, heights-right, cage-right, lag-events, lag-differs, lag-in-range, limit-right, room-right, cage-questions, window-questions, lag-questions, first-questions, own-questions, questions, plan-questions};
 ghost use Rattle.tables.specs.Job.{reservoir-of, call};
 ghost use Rattle.questions.specs.Asked.{check-of, cage-asked, event-right, lag-right};
 
@@ -374,9 +376,20 @@ pub fn room_question(room: usize) -> Check
     Check::Pass
 }
 
-// The job's own questions, 1 to 10, 22, 29, 30 and 31 to 33.
-pub fn own_questions(h: Time, cages: &[i32], table: &[i32], lags: &[i32], sets: &[i32]) -> Check
-    ensures { λ r. ⌜ check-of r ≡ own-questions (call (h .0) (now (cages .entry)) (now (table .entry)) (now (lags .entry)) (now (sets .entry))) ⌝ }
+// Question 28, to the round limit.
+fn limit_question(limit: i32) -> Check
+    ensures { λ r. ⌜ check-of r ≡ ask 28 (limit-right limit) ⌝ }
+{
+    if between(limit, 0, MOST_ROUNDS) {
+        Check::Pass
+    } else {
+        refuse(28, 0)
+    }
+}
+
+// The job's own questions up to its lags': 1 to 10, 22, 29 and 30.
+fn first_questions(h: Time, cages: &[i32], table: &[i32], lags: &[i32]) -> Check
+    ensures { λ r. ⌜ check-of r ≡ first-questions (call (h .0) (now (cages .entry)) (now (table .entry)) (now (lags .entry)) []) ⌝ }
 {
     let cage = cage_questions(h, cages);
     let Check::Pass = cage else {
@@ -386,15 +399,21 @@ pub fn own_questions(h: Time, cages: &[i32], table: &[i32], lags: &[i32], sets: 
     let Check::Pass = windows else {
         return windows;
     };
-    let n = table.len() / 5;
-    let lagged = lag_questions(n, lags);
-    let Check::Pass = lagged else {
-        return lagged;
-    };
-    set_questions(n, sets)
+    lag_questions(table.len() / 5, lags)
 }
 
-// The job's own questions, then of the slip buffer's length, 11.
+// The job's own questions: those, then its sets', 31 to 33.
+pub fn own_questions(h: Time, cages: &[i32], table: &[i32], lags: &[i32], sets: &[i32]) -> Check
+    ensures { λ r. ⌜ check-of r ≡ own-questions (call (h .0) (now (cages .entry)) (now (table .entry)) (now (lags .entry)) (now (sets .entry))) ⌝ }
+{
+    let first = first_questions(h, cages, table, lags);
+    let Check::Pass = first else {
+        return first;
+    };
+    set_questions(table.len() / 5, sets)
+}
+
+// The reader's before it looks at the list: the job's own, then of the list's length, 11.
 pub fn questions(
     h: Time,
     cages: &[i32],
@@ -408,6 +427,33 @@ pub fn questions(
     let own = own_questions(h, cages, table, lags, sets);
     let Check::Pass = own else {
         return own;
+    };
+    room_question(room)
+}
+
+// The planner's: 28 comes after the lags' questions, before the sets'.
+pub fn plan_questions(
+    h: Time,
+    cages: &[i32],
+    table: &[i32],
+    lags: &[i32],
+    sets: &[i32],
+    limit: i32,
+    room: usize,
+) -> Check
+    ensures { λ r. ⌜ check-of r ≡ plan-questions (call (h .0) (now (cages .entry)) (now (table .entry)) (now (lags .entry)) (now (sets .entry))) limit room ⌝ }
+{
+    let first = first_questions(h, cages, table, lags);
+    let Check::Pass = first else {
+        return first;
+    };
+    let rounds = limit_question(limit);
+    let Check::Pass = rounds else {
+        return rounds;
+    };
+    let last = set_questions(table.len() / 5, sets);
+    let Check::Pass = last else {
+        return last;
     };
     room_question(room)
 }

@@ -7,6 +7,9 @@ pub const LEAST_ROOM: usize = 3;
 
 pub const MOST_ROOM: usize = 1000000;
 
+// A round limit is in 0..1,000,000.
+pub const MOST_ROUNDS: i32 = 1000000;
+
 // A refused call: the question's number, and the cage, event, lag, set or slip concerned (else 0).
 pub struct Refusal {
     pub number: usize,

@@ -1,12 +1,12 @@
--- `questions::asked::own_questions` puts the job's own questions in four groups, each where those before it passed. Assumes nothing.
+-- `questions::asked::own_questions` puts the job's own questions up to the lags', then the sets'. Assumes nothing.
 use borrow.Author.Needs.{needs}
 use Rattle.model.specs.Questions.{own-questions}
-use Rattle.questions.proofs.Questions.{then-pass, then-refuse, few-cages, few-events}
+use Rattle.questions.proofs.Questions.{then-pass, then-refuse, first-few}
 use Rattle.questions.proofs.asked.own_questions.Statement.{statement}
 use Rattle.questions.proofs.asked.own_questions.Tie as tie
 
-cage-questions-requires : tie.Need-cage-questions-requires
-cage-questions-requires c κs = search needs
+first-questions-requires : tie.Need-first-questions-requires
+first-questions-requires c κs = search needs
 
 enum-told : tie.Need-enum-told
 enum-told c = search needs
@@ -16,70 +16,24 @@ enum-told-2 c = search needs
 
 returns : tie.Need-returns
 unfolding own-questions
-returns c = then-refuse _ (c .before .before .cage-questions .ensures) (c .enum-told2 .given .1)
-
-window-questions-requires : tie.Need-window-questions-requires
-window-questions-requires c κs =
-    let a = c .before .before .before .args in
-    few-cages (a .h .0) (a .cages .now) (c .before .before .cage-questions .ensures) (c .enum-told .given .1)
-
-enum-told-3 : tie.Need-enum-told-3
-enum-told-3 c = search needs
-
-enum-told-4 : tie.Need-enum-told-4
-enum-told-4 c = search needs
-
-returns-2 : tie.Need-returns-2
-unfolding own-questions
-returns-2 c =
-    then-pass (c .before .before .before .before .before .cage-questions .ensures) (c .before .before .before .enum-told .given .1)
-    (then-refuse _ (c .before .before .window-questions .ensures) (c .enum-told4 .given .1))
-
-lag-questions-requires : tie.Need-lag-questions-requires
-lag-questions-requires c κs =
-    let a = c .before .before .before .before .before .before .args in
-    few-events (a .h .0) _ (a .table .now) (c .before .before .window-questions .ensures) (c .enum-told3 .given .1)
-
-enum-told-5 : tie.Need-enum-told-5
-enum-told-5 c = search needs
-
-enum-told-6 : tie.Need-enum-told-6
-enum-told-6 c = search needs
-
-returns-3 : tie.Need-returns-3
-unfolding own-questions
-returns-3 c =
-    then-pass (c .before .before .before .before .before .before .before .before .cage-questions .ensures) (c .before .before .before .before .before .before .enum-told .given .1)
-    (then-pass (c .before .before .before .before .before .window-questions .ensures) (c .before .before .before .enum-told3 .given .1)
-    (then-refuse _ (c .before .before .lag-questions .ensures) (c .enum-told6 .given .1)))
+returns c = then-refuse _ (c .before .before .first-questions .ensures) (c .enum-told2 .given .1)
 
 set-questions-requires : tie.Need-set-questions-requires
 set-questions-requires c κs =
-    let a = c .before .before .before .before .before .before .before .before .before .args in
-    few-events (a .h .0) _ (a .table .now) (c .before .before .before .before .before .window-questions .ensures) (c .before .before .before .enum-told3 .given .1)
+    let a = c .before .before .before .args in
+    first-few (a .h .0) (a .cages .now) (a .table .now) (a .lags .now) (c .before .before .first-questions .ensures) (c .enum-told .given .1)
 
-returns-4 : tie.Need-returns-4
+returns-2 : tie.Need-returns-2
 unfolding own-questions
-returns-4 c =
-    then-pass (c .before .before .before .before .before .before .before .before .before .cage-questions .ensures) (c .before .before .before .before .before .before .before .enum-told .given .1)
-    (then-pass (c .before .before .before .before .before .before .window-questions .ensures) (c .before .before .before .before .enum-told3 .given .1)
-    (then-pass (c .before .before .before .lag-questions .ensures) (c .before .enum-told5 .given .1) (c .set-questions .ensures)))
+returns-2 c = then-pass (c .before .before .before .first-questions .ensures) (c .before .enum-told .given .1) (c .set-questions .ensures)
 
 pub own-questions-spec : {M : Type 1} → statement M
 own-questions-spec =
     tie.close
     (tie.spec
-    cage-questions-requires
+    first-questions-requires
     enum-told
     enum-told-2
     returns
-    window-questions-requires
-    enum-told-3
-    enum-told-4
-    returns-2
-    lag-questions-requires
-    enum-told-5
-    enum-told-6
-    returns-3
     set-questions-requires
-    returns-4)
+    returns-2)
