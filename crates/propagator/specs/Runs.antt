@@ -2,7 +2,7 @@
 use mathlib.Core.Path.{_≡_}
 use mathlib.Core.Bool.{false}
 use mathlib.Core.List.{List}
-use Prim.Native.Nat.{ℕ}
+use Prim.Native.Nat.{ℕ, zero, suc}
 use lib.IntN.{ℤ}
 use lib.ListN.{length}
 use Rattle.model.specs.Job.{Job as Call}
@@ -33,7 +33,12 @@ abbrev pub run-of : ℕ → List ℤ → List ℤ → List ℤ → Ended → mod
 run-of n sent b buffer q =
     record { verdict = verdict-of (q .verdict); rounds = q .rounds; state = state-of n sent b buffer (q .progress) }
 
--- The run of a job of n events from the window table on a board.
-pub record Ran (j : Call) (n : ℕ) (b buffer b′ buffer′ : List ℤ) (q : Ended) : Type 0 where
-  pub is : run-of n (j .window-table) b′ buffer′ q ≡ model.run (length buffer) j (length buffer) 0 (start (table-of n (j .window-table) b))
+-- The rounds that a limit lets be begun; 0 is no limit, and the room is enough.
+abbrev pub fuel-of : ℕ → ℕ → ℕ
+fuel-of zero room = room
+fuel-of (suc k) room = suc k
+
+-- The run of a job of n events, with so much fuel, from the window table on a board.
+pub record Ran (j : Call) (n fuel : ℕ) (b buffer b′ buffer′ : List ℤ) (q : Ended) : Type 0 where
+  pub is : run-of n (j .window-table) b′ buffer′ q ≡ model.run (length buffer) j fuel 0 (start (table-of n (j .window-table) b))
   pub grown : Grown n buffer fresh b′ buffer′ (q .progress)

@@ -3,17 +3,18 @@ use crate::Answer;
 use crate::Counts;
 use crate::Ended;
 use crate::Verdict;
+use crate::runs::fuel;
 use crate::runs::run;
 use questions::Check;
 use questions::Refusal;
-use questions::asked::questions;
+use questions::asked::plan_questions;
 use slips::appending::append_trailer;
 use tables::Time;
 use tables::load;
 use tables::unload;
 ghost use mathlib.Core.Path.{_≡_};
 ghost use lib.ListN.{length};
-ghost use Rattle.model.specs.Questions.{pass, questions};
+ghost use Rattle.model.specs.Questions.{pass, plan-questions};
 ghost use Rattle.model.specs.Planner.{done, plan};
 ghost use Rattle.tables.specs.Job.{call};
 ghost use Rattle.propagator.specs.Runs.{verdict-of};
@@ -45,19 +46,21 @@ fn planned(
     table: &mut [i32],
     lags: &[i32],
     sets: &[i32],
+    limit: i32,
     buffer: &mut [i32],
 ) -> Answer
-    requires { ⌜ questions (call (h .0) (now cages) (now table) (now lags) (now sets)) (length (now buffer)) ≡ pass ⌝ }
+    requires { ⌜ plan-questions (call (h .0) (now cages) (now table) (now lags) (now sets)) limit (length (now buffer)) ≡ pass ⌝ }
     ensures { λ r. ⌜
         Outcomes
-        (plan (call (h .0) (now (cages .entry)) (now (table .entry)) (now (lags .entry)) (now (sets .entry))) (now (buffer .entry)))
+        (plan (call (h .0) (now (cages .entry)) (now (table .entry)) (now (lags .entry)) (now (sets .entry))) limit (now (buffer .entry)))
         (now (table .exit)) (now (buffer .exit)) r
         ⌝ }
 {
     let n = table.len() / 5;
     let mut b: [i32; 256] = [0; 256];
     load(table, n, &mut b);
-    let e = run(&mut b, h, n, cages, table, lags, sets, buffer);
+    let most = fuel(limit, buffer.len());
+    let e = run(&mut b, h, n, cages, table, lags, sets, most, buffer);
     let p = e.progress;
     let used = p.used;
     let length = append_trailer(buffer, used, p.slips, p.last);
@@ -72,7 +75,7 @@ fn refused(r: Refusal, table: &mut [i32]) -> Answer
     Answer::Refused(r)
 }
 
-// The planner: the reply, and every word of the window table and the slip buffer, as document 01 says. A refusal changes no lent word.
+// The planner with a round limit, 0 for none: the reply, and every word of the window table and the slip buffer, as the papers say. A refusal changes no lent word.
 // It rules out a planner that writes no slip (no_slip) and one that answers conflict always (conflict_always).
 pub fn plan(
     h: i32,
@@ -80,16 +83,17 @@ pub fn plan(
     table: &mut [i32],
     lags: &[i32],
     sets: &[i32],
+    limit: i32,
     buffer: &mut [i32],
 ) -> Answer
-    ensures answer { λ r. ⌜ reply-of r ≡ plan (call h (now (cages .entry)) (now (table .entry)) (now (lags .entry)) (now (sets .entry))) (now (buffer .entry)) .reply ⌝ }
-    ensures windows { λ r. ⌜ now (table .exit) ≡ plan (call h (now (cages .entry)) (now (table .entry)) (now (lags .entry)) (now (sets .entry))) (now (buffer .entry)) .table ⌝ }
-    ensures slips { λ r. ⌜ now (buffer .exit) ≡ plan (call h (now (cages .entry)) (now (table .entry)) (now (lags .entry)) (now (sets .entry))) (now (buffer .entry)) .buffer ⌝ }
+    ensures answer { λ r. ⌜ reply-of r ≡ plan (call h (now (cages .entry)) (now (table .entry)) (now (lags .entry)) (now (sets .entry))) limit (now (buffer .entry)) .reply ⌝ }
+    ensures windows { λ r. ⌜ now (table .exit) ≡ plan (call h (now (cages .entry)) (now (table .entry)) (now (lags .entry)) (now (sets .entry))) limit (now (buffer .entry)) .table ⌝ }
+    ensures slips { λ r. ⌜ now (buffer .exit) ≡ plan (call h (now (cages .entry)) (now (table .entry)) (now (lags .entry)) (now (sets .entry))) limit (now (buffer .entry)) .buffer ⌝ }
 {
     let horizon = Time(h);
-    let check = questions(horizon, cages, table, lags, sets, buffer.len());
+    let check = plan_questions(horizon, cages, table, lags, sets, limit, buffer.len());
     match check {
         Check::Refuse(r) => refused(r, table),
-        Check::Pass => planned(horizon, cages, table, lags, sets, buffer),
+        Check::Pass => planned(horizon, cages, table, lags, sets, limit, buffer),
     }
 }

@@ -1,4 +1,4 @@
-// Rounds until settled, conflict or stopped.
+// Rounds until settled, conflict or stopped, for want of room or of rounds.
 use crate::Ended;
 use crate::Verdict;
 use rounds::Progress;
@@ -7,11 +7,13 @@ use rounds::attempts::is_running;
 use tables::Time;
 use turns::turn;
 ghost use mathlib.Core.Path.{_≡_};
+ghost use lib.IntN.{pos, natAbs};
+ghost use lib.Signed.{_≤ℤ_};
 ghost use Rattle.tables.specs.Board.{board};
 ghost use Rattle.tables.specs.Job.{call};
 ghost use Rattle.rounds.specs.State.{Held};
 ghost use Rattle.turns.specs.Turns.{Works};
-ghost use Rattle.propagator.specs.Runs.{fresh, Tested, Ran};
+ghost use Rattle.propagator.specs.Runs.{fresh, Tested, fuel-of, Ran};
 
 // No slip yet.
 pub fn start() -> Progress
@@ -37,7 +39,16 @@ fn verdict(p: Progress) -> Verdict
     }
 }
 
-// Rounds from the start until one writes no slip, or a conflict or the room ends the call.
+// As many rounds as a round limit lets be begun, 0 for none: without one the room is enough, since each but the last writes a slip.
+pub fn fuel(limit: i32, room: usize) -> usize
+    requires { ⌜ pos 0 ≤ℤ limit ⌝ }
+    ensures { λ k. ⌜ k ≡ fuel-of (natAbs limit) room ⌝ }
+{
+    let rounds = limit as usize;
+    if rounds == 0 { room } else { rounds }
+}
+
+// Rounds from the start until one writes no slip, or a conflict, the room or the fuel, a number of rounds, ends the call.
 pub fn run(
     b: &mut [i32; 256],
     h: Time,
@@ -46,17 +57,18 @@ pub fn run(
     table: &[i32],
     lags: &[i32],
     sets: &[i32],
+    fuel: usize,
     buffer: &mut [i32],
 ) -> Ended
     requires { ⌜ Works (call (h .0) (now cages) (now table) (now lags) (now sets)) n (board (now b)) × Held n (now b) (now buffer) fresh ⌝ }
     ensures { λ q. ⌜
-        Ran (call (h .0) (now (cages .entry)) (now (table .entry)) (now (lags .entry)) (now (sets .entry))) n
+        Ran (call (h .0) (now (cages .entry)) (now (table .entry)) (now (lags .entry)) (now (sets .entry))) n fuel
         (now (b .entry)) (now (buffer .entry)) (now (b .exit)) (now (buffer .exit)) q
         ⌝ }
 {
     let mut p = start();
     let mut rounds: usize = 0;
-    loop {
+    while rounds < fuel {
         let q = turn(b, h, n, cages, table, lags, sets, buffer, p);
         rounds += 1;
         if !is_running(q) {
@@ -74,5 +86,10 @@ pub fn run(
             };
         }
         p = q;
+    }
+    Ended {
+        verdict: Verdict::Stopped,
+        rounds: rounds,
+        progress: p,
     }
 }

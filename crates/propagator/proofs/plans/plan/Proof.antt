@@ -8,8 +8,8 @@ use borrow.Author.Needs.{needs}
 use Rattle.propagator.proofs.plans.plan.Statement.{statement}
 use Rattle.propagator.proofs.plans.plan.Tie as tie
 
-questions-requires : tie.Need-questions-requires
-questions-requires c κs = search needs
+plan-questions-requires : tie.Need-plan-questions-requires
+plan-questions-requires c κs = search needs
 
 enum-known-check : tie.Need-enum-known-check
 enum-known-check c = search needs
@@ -21,7 +21,7 @@ enum-told : tie.Need-enum-told
 enum-told c = search needs
 
 planned-requires : tie.Need-planned-requires
-planned-requires c κs = plan-passes _ (c .before .before .before .before .before .before .args .buffer .now) (c .before .before .before .before .questions .ensures) (c .before .before .enum-told .given .1)
+planned-requires c κs = plan-passes _ _ (c .before .before .before .before .before .before .args .buffer .now) (c .before .before .before .before .plan-questions .ensures) (c .before .before .enum-told .given .1)
 
 same-length : tie.Need-same-length
 same-length c = search needs
@@ -31,7 +31,7 @@ returns c =
     let s = c .before .before .before .before .before .before .before .before in
     let a = s .args in
     let j = call (toZ w32 (ofZ w32 (a .h))) (a .cages .now) (a .table .now) (a .lags .now) (a .sets .now) in
-    let o = rw (toZ-ofZ (s .fits .h)) at (plan-refused j (a .buffer .now) (c .before .before .before .before .before .before .questions .ensures) (c .before .before .before .before .check .given .1) (c .before .refused .ensures)) in
+    let o = rw (toZ-ofZ (s .fits .h), toZ-ofZ (s .fits .limit)) at (plan-refused j (toZ w32 (ofZ w32 (a .limit))) (a .buffer .now) (c .before .before .before .before .before .before .plan-questions .ensures) (c .before .before .before .before .check .given .1) (c .before .refused .ensures)) in
     (o .answer, (o .windows, o .slips))
 
 same-length-2 : tie.Need-same-length-2
@@ -42,14 +42,14 @@ same-length-3 c = search needs
 
 returns-2 : tie.Need-returns-2
 returns-2 c =
-    let o = rw (toZ-ofZ (c .before .before .before .before .before .before .before .before .before .fits .h)) at (c .before .before .planned .ensures) in
+    let o = rw (toZ-ofZ (c .before .before .before .before .before .before .before .before .before .fits .h), toZ-ofZ (c .before .before .before .before .before .before .before .before .before .fits .limit)) at (c .before .before .planned .ensures) in
     (o .answer, (o .windows, o .slips))
 
 pub plan-spec : {M : Type 1} → statement M
 plan-spec =
     tie.close
     (tie.spec
-    questions-requires
+    plan-questions-requires
     enum-known-check
     refused-requires
     enum-told
