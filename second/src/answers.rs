@@ -11,7 +11,12 @@ use crate::stream::{checksum, Call, Record, RecordReader};
 pub fn run_plan(record: &mut Record) -> PlanAnswer {
     let job = &mut record.job;
     let mut windows = std::mem::take(&mut job.windows);
-    let answer = plan(&job.settings(), &mut windows, &mut record.buffer);
+    let answer = plan(
+        &job.settings(),
+        &mut windows,
+        record.limit,
+        &mut record.buffer,
+    );
     job.windows = windows;
     answer
 }

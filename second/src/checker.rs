@@ -19,7 +19,7 @@ pub enum ReadAnswer {
 /// Checks a log for a job; on acceptance the window table is left narrowed.
 /// Takes any numbers, any lengths and any words.
 pub fn read(settings: &Settings, windows: &mut [i32], list: &[i32]) -> ReadAnswer {
-    let job = match Job::admit_with_room(settings, windows, list.len()) {
+    let job = match Job::admit_list(settings, windows, list.len()) {
         Ok(job) => job,
         Err(refusal) => return ReadAnswer::Refused(refusal),
     };

@@ -15,7 +15,7 @@ use crate::stream::{Call, Record, RecordReader, HEADER_WORDS};
 /// One more than the greatest number of a question.
 const QUESTIONS: usize = 34;
 /// The numbers of the questions of document 01 and of those added since.
-const ASKED: [std::ops::RangeInclusive<usize>; 3] = [1..=19, 22..=22, 29..=33];
+const ASKED: [std::ops::RangeInclusive<usize>; 3] = [1..=19, 22..=22, 28..=33];
 /// One more than the greatest number of a rule.
 const RULES: usize = 19;
 /// The numbers of the rules.
@@ -62,6 +62,10 @@ struct Counts {
     /// By cover.
     plan_rules: [RuleCounts; 2],
     most_rounds: usize,
+    /// Ended in the last round that the limit allows.
+    limit_settled: u64,
+    limit_conflict: u64,
+    limit_stopped: u64,
     events: [u64; MAX_EVENTS + 1],
     cages: [u64; MAX_CAGES + 1],
     open: u64,
@@ -82,6 +86,9 @@ impl Counts {
             plan_places: [0; QUESTIONS],
             plan_rules: [RuleCounts::default(); 2],
             most_rounds: 0,
+            limit_settled: 0,
+            limit_conflict: 0,
+            limit_stopped: 0,
             events: [0; MAX_EVENTS + 1],
             cages: [0; MAX_CAGES + 1],
             open: 0,
@@ -103,7 +110,8 @@ impl Counts {
     }
 
     fn add_plan(&mut self, record: &mut Record) {
-        let (counter, tally) = match run_plan(record) {
+        let answer = run_plan(record);
+        let (counter, tally) = match answer {
             PlanAnswer::Settled(tally) => (&mut self.settled, tally),
             PlanAnswer::Conflict(tally) => (&mut self.conflict, tally),
             PlanAnswer::Stopped(tally) => (&mut self.stopped, tally),
@@ -114,6 +122,13 @@ impl Counts {
         };
         *counter += 1;
         let Tally { rounds, length, .. } = tally;
+        if record.limit != 0 && rounds == record.limit as usize {
+            match answer {
+                PlanAnswer::Settled(_) => self.limit_settled += 1,
+                PlanAnswer::Stopped(_) => self.limit_stopped += 1,
+                _ => self.limit_conflict += 1,
+            }
+        }
         self.most_rounds = self.most_rounds.max(rounds);
         self.events[record.job.events()] += 1;
         self.cages[record.job.cages.len() / CAGE_WORDS] += 1;
@@ -143,6 +158,11 @@ impl Counts {
             self.stopped,
             self.plan_refused.iter().sum::<u64>(),
             self.most_rounds
+        )?;
+        writeln!(
+            out,
+            "plan: in the last round allowed, settled {} conflict {} stopped {}",
+            self.limit_settled, self.limit_conflict, self.limit_stopped
         )?;
         let fewest = self.events.iter().min().copied().unwrap_or(0);
         writeln!(

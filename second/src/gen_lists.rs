@@ -84,7 +84,8 @@ pub fn own_list(rng: &mut Rng, raw: &RawJob, most: usize) -> Vec<i32> {
         return buffer[..length].to_vec();
     }
     let room = cut_room(rng, &buffer[..length]).max(TRAILER_WORDS);
-    let (answer, buffer) = raw.planned(room);
+    let limit = rng.pick(&[0, 0, 0, 1, 2, 5]);
+    let (answer, buffer) = raw.planned_within(room, limit);
     let length = tally_of(answer).map_or(TRAILER_WORDS, |tally| tally.length);
     buffer[..length].to_vec()
 }
@@ -506,6 +507,7 @@ pub fn read_record(rng: &mut Rng) -> Record {
     Record {
         call: Call::Read,
         job,
+        limit: 0,
         buffer: list,
     }
 }

@@ -56,7 +56,8 @@ pub fn random_text(rng: &mut Rng) -> Vec<u8> {
 const CAGE_COUNT: usize = 1;
 
 /// The numbers of a job's text: H, the number of cages and their words, n, m,
-/// the events, the lags, the number of sets and their words.
+/// the events, the lags, the number of sets and their words, in half of all
+/// cases a round limit.
 fn job_numbers(rng: &mut Rng) -> Vec<i64> {
     let job = random_job(rng);
     let counts = [
@@ -71,8 +72,19 @@ fn job_numbers(rng: &mut Rng) -> Vec<i64> {
         .chain(&job.lags)
         .chain(&[set_count(&job.sets)])
         .chain(&job.sets)
+        .chain(&some_limit(rng))
         .map(|word| i64::from(*word))
         .collect()
+}
+
+/// A round limit, sound or not, or none.
+fn some_limit(rng: &mut Rng) -> Vec<i32> {
+    match rng.below(8) {
+        0..=3 => Vec::new(),
+        4 => vec![0],
+        5 | 6 => vec![rng.pick(&[1, 2, 3, 40, 41, 1_000_000])],
+        _ => vec![rng.pick(&[-1, 1_000_001, i32::MIN, i32::MAX])],
+    }
 }
 
 /// How many sets a table holds, one cut short at its end counted too.
@@ -113,7 +125,10 @@ fn miscount(rng: &mut Rng, numbers: &mut Vec<i64>) {
         0 => {
             numbers.pop();
         }
-        1 => numbers.push(rng.within(-9, 9)),
+        1 => {
+            let more = 1 + rng.below(2);
+            numbers.extend((0..more).map(|_| rng.within(-9, 9)));
+        }
         2 => numbers.truncate(rng.below(numbers.len())),
         3 => numbers[event_count] = rng.pick(&[-1, 65, 64, i64::from(i32::MAX)]),
         4 => numbers[lag_count] = rng.pick(&[-1, 257, 256, i64::from(i32::MIN)]),

@@ -16,6 +16,8 @@ pub const MAX_CAGES: usize = 8;
 pub const CAGE_WORDS: usize = 4;
 pub const EVENT_WORDS: usize = 5;
 pub const LAG_WORDS: usize = 3;
+/// 0 is no limit.
+pub const ROUND_BOUND: i64 = 1_000_000;
 pub const MIN_ROOM: usize = 3;
 pub const MAX_ROOM: usize = 1_000_000;
 
@@ -160,12 +162,18 @@ impl Job {
     /// Asks the job's own questions in their order: 1, 29, 2, 3, 22, 4, 5, 6,
     /// 30, 7, 8, 9, 10, 31, 32, 33.
     pub fn admit(settings: &Settings, windows: &[i32]) -> Result<Job, Refusal> {
+        Job::admit_with_limit(settings, windows, 0)
+    }
+
+    /// The job's own questions, and 28 of a round limit after 10.
+    fn admit_with_limit(settings: &Settings, windows: &[i32], limit: i32) -> Result<Job, Refusal> {
         let horizon = i64::from(settings.horizon);
         ask(1, (0..=HORIZON_BOUND).contains(&horizon))?;
         let cages = admit_cages(settings.cages)?;
         let entries = admit_windows(windows, horizon, settings.amount_bound)?;
         let cage_of = admit_cage_words(windows, cages.len())?;
         let lags = admit_lags(settings.lags, entries.len())?;
+        ask(28, (0..=ROUND_BOUND).contains(&i64::from(limit)))?;
         let sets = admit_sets(settings.sets, entries.len())?;
         let mut members = vec![Vec::new(); cages.len()];
         for (event, cage) in cage_of.iter().enumerate() {
@@ -183,14 +191,21 @@ impl Job {
         })
     }
 
-    /// The job's own questions, then 11: has the slip buffer (for the checker,
-    /// its list) 3 to 1,000,000 words?
-    pub fn admit_with_room(
+    /// The checker's questions about all but its list's words: the job's own,
+    /// then 11: has the list 3 to 1,000,000 words?
+    pub fn admit_list(settings: &Settings, windows: &[i32], words: usize) -> Result<Job, Refusal> {
+        Job::admit_run(settings, windows, 0, words)
+    }
+
+    /// The propagator's questions: the job's own with 28 of the round limit,
+    /// then 11 of the slip buffer.
+    pub fn admit_run(
         settings: &Settings,
         windows: &[i32],
+        limit: i32,
         room: usize,
     ) -> Result<Job, Refusal> {
-        let job = Job::admit(settings, windows)?;
+        let job = Job::admit_with_limit(settings, windows, limit)?;
         ask(11, (MIN_ROOM..=MAX_ROOM).contains(&room))?;
         Ok(job)
     }

@@ -1,5 +1,6 @@
 //! The propagator (document 01: planner): rounds of the rules until a
-//! round writes nothing, a conflict shows, or the log's room is out.
+//! round writes nothing, a conflict shows, or the log's room or the round limit
+//! is out.
 
 use crate::explain::{premises, Finding};
 use crate::explanation::{
@@ -34,14 +35,21 @@ pub enum PlanAnswer {
 
 /// Narrows the window table and writes the log into the buffer. Takes any
 /// numbers and any lengths; a refused call changes no word.
-pub fn plan(settings: &Settings, windows: &mut [i32], buffer: &mut [i32]) -> PlanAnswer {
-    let job = match Job::admit_with_room(settings, windows, buffer.len()) {
+/// After `limit` rounds the run is stopped, unless the last wrote nothing; 0 is
+/// no limit.
+pub fn plan(
+    settings: &Settings,
+    windows: &mut [i32],
+    limit: i32,
+    buffer: &mut [i32],
+) -> PlanAnswer {
+    let job = match Job::admit_run(settings, windows, limit, buffer.len()) {
         Ok(job) => job,
         Err(refusal) => return PlanAnswer::Refused(refusal),
     };
     let open = open_amounts(&job);
     let mut run = Run::new(&job, &open, buffer);
-    let halt = run.rounds();
+    let halt = run.rounds(limit as usize);
     let tally = run.close();
     store_windows(&run.windows, windows);
     match halt {
@@ -51,7 +59,7 @@ pub fn plan(settings: &Settings, windows: &mut [i32], buffer: &mut [i32]) -> Pla
     }
 }
 
-/// Why a run ended in the middle of a round.
+/// Why a run ended before it was settled.
 #[derive(Clone, Copy, Debug, PartialEq, Eq)]
 enum Halt {
     Conflict,
@@ -110,14 +118,16 @@ impl<'a> Run<'a> {
         }
     }
 
-    /// Rounds until one writes nothing, or until a halt.
-    fn rounds(&mut self) -> Option<Halt> {
+    /// Rounds until one writes nothing, or until a halt. The limit's halt comes
+    /// last.
+    fn rounds(&mut self, limit: usize) -> Option<Halt> {
         loop {
             let before = self.slips;
             self.rounds += 1;
             match self.round() {
                 Err(halt) => return Some(halt),
                 Ok(()) if self.slips == before => return None,
+                Ok(()) if self.rounds == limit => return Some(Halt::Stopped),
                 Ok(()) => {}
             }
         }

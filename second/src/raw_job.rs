@@ -50,11 +50,17 @@ impl RawJob {
         Job::admit(&self.settings(), &self.windows)
     }
 
-    /// Runs the propagator on copies of the tables: the answer and the buffer.
+    /// Runs the propagator without a round limit on copies of the tables: the
+    /// answer and the buffer.
     pub fn planned(&self, room: usize) -> (PlanAnswer, Vec<i32>) {
+        self.planned_within(room, 0)
+    }
+
+    /// The same with a round limit.
+    pub fn planned_within(&self, room: usize, limit: i32) -> (PlanAnswer, Vec<i32>) {
         let mut windows = self.windows.clone();
         let mut buffer = vec![0; room];
-        let answer = plan(&self.settings(), &mut windows, &mut buffer);
+        let answer = plan(&self.settings(), &mut windows, limit, &mut buffer);
         (answer, buffer)
     }
 }

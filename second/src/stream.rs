@@ -15,8 +15,8 @@ const END_WORD: i32 = 0;
 const WORD_BYTES: usize = 4;
 /// Cages, windows, lags, sets, buffer.
 const TABLES: usize = 5;
-/// Kind, H and the lengths of the tables.
-pub const HEADER_WORDS: usize = 2 + TABLES;
+/// Kind, H, limit and the lengths of the tables.
+pub const HEADER_WORDS: usize = 3 + TABLES;
 /// A longer table in a header means that the stream is not one of ours.
 const MOST_WORDS: i32 = 2_000_000;
 
@@ -33,6 +33,8 @@ pub enum Call {
 pub struct Record {
     pub call: Call,
     pub job: RawJob,
+    /// The round limit; 0 for the checker.
+    pub limit: i32,
     pub buffer: Vec<i32>,
 }
 
@@ -48,7 +50,7 @@ impl Record {
             Call::Plan => PLAN_KIND,
             Call::Read => READ_KIND,
         };
-        write_words(out, &[call, self.job.horizon])?;
+        write_words(out, &[call, self.job.horizon, self.limit])?;
         write_words(out, &self.tables().map(|table| table.len() as i32))?;
         self.tables()
             .iter()
@@ -84,18 +86,23 @@ impl<R: Read> RecordReader<R> {
             READ_KIND => Call::Read,
             _ => return Err(bad_stream("unknown kind of record")),
         };
-        let horizon = self.words(1)?[0];
+        let numbers = self.words(2)?;
         let lengths = self.words(TABLES)?;
         let [cages, windows, lags, sets, buffer] = self.tables(&lengths)?;
         let job = RawJob {
-            horizon,
+            horizon: numbers[0],
             cages,
             windows,
             lags,
             sets,
             amount_bound: AMOUNT_BOUND,
         };
-        Ok(Some(Record { call, job, buffer }))
+        Ok(Some(Record {
+            call,
+            job,
+            limit: numbers[1],
+            buffer,
+        }))
     }
 
     fn tables(&mut self, lengths: &[i32]) -> io::Result<[Vec<i32>; TABLES]> {

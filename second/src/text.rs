@@ -13,8 +13,10 @@ use crate::sets::{MAX_SETS, SET_HEAD_WORDS};
 
 /// The log's room in words.
 pub const TEXT_ROOM: usize = 16_000;
-/// H, the cage count, n, m, the number of sets.
-const COUNT_NUMBERS: usize = 5;
+/// The round limit of a text that names none.
+pub const DEFAULT_LIMIT: i32 = 40;
+/// H, the cage count, n, m, the number of sets, the limit.
+const COUNT_NUMBERS: usize = 6;
 /// The most members of a set in a text.
 const MOST_MEMBERS: usize = 64;
 /// No well-formed text has more numbers than this.
@@ -149,8 +151,8 @@ impl Parts<'_> {
     }
 }
 
-/// Splits the numbers into the parts of a job.
-fn job_of(numbers: &[i32]) -> Result<RawJob, Malformed> {
+/// Splits the numbers into the parts of a job and its round limit.
+fn job_of(numbers: &[i32]) -> Result<(RawJob, i32), Malformed> {
     let mut parts = Parts { rest: numbers };
     let horizon = parts.number()?;
     let cages = parts.count(1, MAX_CAGES)?;
@@ -160,24 +162,27 @@ fn job_of(numbers: &[i32]) -> Result<RawJob, Malformed> {
     let windows = parts.take(events * EVENT_WORDS)?;
     let lags = parts.take(lags * LAG_WORDS)?;
     let sets = parts.sets()?;
-    if !parts.rest.is_empty() {
-        return Err(Malformed);
-    }
-    Ok(RawJob {
+    let limit = match parts.rest {
+        [] => DEFAULT_LIMIT,
+        [limit] => *limit,
+        _ => return Err(Malformed),
+    };
+    let job = RawJob {
         horizon,
         cages,
         windows,
         lags,
         sets,
         amount_bound: AMOUNT_BOUND,
-    })
+    };
+    Ok((job, limit))
 }
 
 /// The lines that answer a job.
-fn answer_job(job: RawJob) -> String {
+fn answer_job(job: &RawJob, limit: i32) -> String {
     let mut windows = job.windows.clone();
     let mut buffer = vec![0; TEXT_ROOM];
-    let answer = plan(&job.settings(), &mut windows, &mut buffer);
+    let answer = plan(&job.settings(), &mut windows, limit, &mut buffer);
     match answer {
         PlanAnswer::Settled(tally) => taken("settled", tally, &windows),
         PlanAnswer::Conflict(tally) => taken("conflict", tally, &windows),
@@ -206,7 +211,7 @@ fn refused(refusal: Refusal) -> String {
 /// The lines for numbers read, or for a text that gave none.
 fn answer_numbers(numbers: Result<Vec<i32>, Malformed>) -> String {
     match numbers.and_then(|numbers| job_of(&numbers)) {
-        Ok(job) => answer_job(job),
+        Ok((job, limit)) => answer_job(&job, limit),
         Err(Malformed) => refused(Refusal {
             number: MALFORMED,
             place: 0,

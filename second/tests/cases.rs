@@ -14,6 +14,7 @@ struct Case {
     windows: Vec<i32>,
     lags: Vec<i32>,
     sets: Vec<i32>,
+    limit: i32,
     room: usize,
 }
 
@@ -30,6 +31,7 @@ fn case(q: i32, windows: &[i32]) -> Case {
         windows: in_cage_0(windows),
         lags: Vec::new(),
         sets: Vec::new(),
+        limit: 0,
         room: 40,
     }
 }
@@ -56,6 +58,11 @@ impl Case {
         self
     }
 
+    fn with_limit(mut self, limit: i32) -> Case {
+        self.limit = limit;
+        self
+    }
+
     fn with_room(mut self, room: usize) -> Case {
         self.room = room;
         self
@@ -75,7 +82,7 @@ impl Case {
     fn plan(&self) -> (PlanAnswer, Vec<i32>, Vec<i32>) {
         let mut windows = self.windows.clone();
         let mut buffer = vec![JUNK; self.room];
-        let answer = plan(&self.settings(), &mut windows, &mut buffer);
+        let answer = plan(&self.settings(), &mut windows, self.limit, &mut buffer);
         (answer, windows, buffer)
     }
 
@@ -394,6 +401,45 @@ fn questions_of_sets() {
 }
 
 #[test]
+fn the_round_limit() {
+    // K1 narrows in round 1; round 2 is silent.
+    let settled = PlanAnswer::Settled(tally(1, 2, 16));
+    for limit in [0, 2, 3, 1_000_000] {
+        let job = case(0, &K1_WINDOWS).with_limit(limit);
+        job.gives(settled, &K1_LEFT, &K1_LIST);
+    }
+    let stopped = PlanAnswer::Stopped(tally(1, 1, 16));
+    let job = case(0, &K1_WINDOWS).with_limit(1);
+    job.gives(stopped, &K1_LEFT, &K1_LIST);
+    // A silent round settles, the last allowed one too; a conflict stays one.
+    let silent = PlanAnswer::Settled(tally(0, 1, 3));
+    case(0, &[]).with_limit(1).gives(silent, &[], &[0, 0, 4207]);
+    let windows = [0, 30, -4, -4];
+    let conflict = PlanAnswer::Conflict(tally(1, 1, 13));
+    let list = [9, 0, 0, 0, 0, 1, 0, 4, -4, 10, 1, 0, 4207];
+    case(3, &windows)
+        .with_limit(1)
+        .gives(conflict, &windows, &list);
+    // The room is out before the limit is.
+    let stopped = PlanAnswer::Stopped(tally(0, 1, 3));
+    let job = case(0, &K1_WINDOWS).with_limit(2).with_room(15);
+    job.gives(stopped, &K1_WINDOWS, &[0, 0, 4207]);
+}
+
+#[test]
+fn question_28() {
+    let plan = |case: Case| case.plan().0;
+    for limit in [-1, 1_000_001, i32::MIN, i32::MAX] {
+        let refused = |number: i32| PlanAnswer::Refused(Refusal { number, place: 0 });
+        let job = || case(0, &[0, 9, 0, 0, 0, 9, 0, 0]).with_limit(limit);
+        assert_eq!(plan(job()), refused(28));
+        assert_eq!(plan(job().with_lags(&[0, 1, 20_001])), refused(10));
+        assert_eq!(plan(job().with_sets(&[1])), refused(28));
+        assert_eq!(plan(job().with_room(2)), refused(28));
+    }
+}
+
+#[test]
 fn another_cover_is_22() {
     for cover in [-1, 2, i32::MIN, i32::MAX] {
         case(0, &[]).with_cover(cover).is_refused(22, 0);
@@ -518,7 +564,7 @@ fn extreme_words_are_harmless() {
         sets: &[word; 3],
         amount_bound: AMOUNT_BOUND,
     };
-    let answer = plan(&settings, &mut [word; 5], &mut [word; 3]);
+    let answer = plan(&settings, &mut [word; 5], word, &mut [word; 3]);
     assert_eq!(answer, PlanAnswer::Refused(refusal));
 }
 

@@ -78,11 +78,12 @@ fn every_refusal_and_every_rule_is_reached() {
     write_counts(bytes.as_slice(), &mut text).expect("a whole stream");
     let text = String::from_utf8(text).expect("plain text");
     let rows = count_rows(&text);
-    let (refusals, rules) = rows.split_at(25);
+    let (refusals, rules) = rows.split_at(26);
     assert_eq!(rules.len(), 2 * 16, "{text}");
     for row in refusals {
         let by_planner = !(12..=19).contains(&row[0]);
-        assert!(row[3] > 0 && (row[1] > 0) == by_planner, "{text}");
+        let by_reader = row[0] != 28;
+        assert_eq!([row[1] > 0, row[3] > 0], [by_planner, by_reader], "{text}");
     }
     for row in rules {
         let level = [3, 6, 9, 12].contains(&row[0]);

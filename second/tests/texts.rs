@@ -174,7 +174,7 @@ fn the_largest_job() {
 fn windows_after_conflict_and_stopped() {
     // Two lags at odds: two slips in the first round, then four in each, of 10
     // words; 1,599 of them and the trailer fit into 16,000 words.
-    let text = "20000 1 0 10 0 1 2 2  0 20000 0 0 0  0 20000 0 0 0  0 1 0  1 0 -1  0";
+    let text = "20000 1 0 10 0 1 2 2  0 20000 0 0 0  0 20000 0 0 0  0 1 0  1 0 -1  0  0";
     assert_eq!(
         answer(text),
         "stopped 1599 401\n0 400 19600 0 0\n1 399 19600 0 0\n"
@@ -182,6 +182,30 @@ fn windows_after_conflict_and_stopped() {
     assert_eq!(
         answer("100 1 0 10 3 1 1 0 0 30 -4 -4 0 0"),
         "conflict 1 1\n0 0 30 -4 -4\n"
+    );
+}
+
+#[test]
+fn the_limit_ends_the_text() {
+    let creep = "20000 1 0 10 0 1 2 2  0 20000 0 0 0  0 20000 0 0 0  0 1 0  1 0 -1  0";
+    // Two slips in the first round, then four in each.
+    let default = "stopped 158 40\n0 40 19961 0 0\n1 39 19960 0 0\n";
+    assert_eq!(answer(creep), default);
+    assert_eq!(answer(&format!("{creep} 40")), default);
+    assert_eq!(
+        answer(&format!("{creep} 1")),
+        "stopped 2 1\n0 1 20000 0 0\n1 0 19999 0 0\n"
+    );
+    assert_eq!(answer(&format!("{EMPTY} 1")), "settled 0 1\n");
+    for wrong in ["-1", "1000001", "-2147483648"] {
+        assert_eq!(answer(&format!("{EMPTY} {wrong}")), "refused 28 0\n");
+    }
+    assert_eq!(answer(&format!("{EMPTY} 1000000")), "settled 0 1\n");
+    assert_eq!(answer(&format!("{EMPTY} 0 0")), MALFORMED);
+    assert_eq!(answer(&format!("{EMPTY} 2147483648")), MALFORMED);
+    assert_eq!(
+        answer("100 1 0 10 0 1 1 0 0 9 0 0 0  1 0 9 0  -1"),
+        "refused 28 0\n"
     );
 }
 
@@ -219,7 +243,7 @@ fn random_texts_reach_all_answers() {
         .map(String::from)
         .into_iter()
         .chain(
-            [1, 2, 3, 5, 6, 8, 9, 10, 20, 22, 30, 32, 33]
+            [1, 2, 3, 5, 6, 8, 9, 10, 20, 22, 28, 30, 32, 33]
                 .map(|number| format!("refused {number} ")),
         );
     for beginning in wanted {

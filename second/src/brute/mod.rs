@@ -195,10 +195,12 @@ fn check_job(rng: &mut Rng, raw: &RawJob, counts: &mut Counts) -> Result<(), Fai
     counts.jobs += 1;
     counts.schedules += all.inside.len();
     counts.jobs_with_schedules += usize::from(!all.inside.is_empty());
-    let whole = check_own(&all, ROOM, counts)?;
+    let whole = check_own(&all, ROOM, 0, counts)?;
     for _ in 0..OWN_CUTS {
         let room = cut_room(rng, &whole).max(TRAILER_WORDS);
-        check_own(&all, room, counts)?;
+        let limit = rng.pick(&[0, 0, 1, 2, 3]);
+        let cut = check_own(&all, room, limit, counts)?;
+        check_beginning(&whole, cut)?;
     }
     for list in foreign_lists(rng, &all, &whole) {
         check_foreign(&all, list, counts)?;
@@ -206,12 +208,17 @@ fn check_job(rng: &mut Rng, raw: &RawJob, counts: &mut Counts) -> Result<(), Fai
     Ok(())
 }
 
-/// The propagator's own list in some room: the windows it leaves, and that the
+/// The propagator's own list in some room and rounds: the windows it leaves, and that the
 /// checker comes to the same windows and verdict.
-fn check_own(all: &Enumerated, room: usize, counts: &mut Counts) -> Result<Vec<i32>, Failure> {
+fn check_own(
+    all: &Enumerated,
+    room: usize,
+    limit: i32,
+    counts: &mut Counts,
+) -> Result<Vec<i32>, Failure> {
     let mut left = all.raw.windows.clone();
     let mut buffer = vec![0; room];
-    let answer = plan(&all.raw.settings(), &mut left, &mut buffer);
+    let answer = plan(&all.raw.settings(), &mut left, limit, &mut buffer);
     let (conflict, tally) = match answer {
         PlanAnswer::Settled(tally) => (false, tally),
         PlanAnswer::Conflict(tally) => (true, tally),
@@ -248,6 +255,19 @@ fn check_own(all: &Enumerated, room: usize, counts: &mut Counts) -> Result<Vec<i
     all.check_accepted(&buffer, &left, conflict, counts)
         .map_err(fail)?;
     Ok(buffer)
+}
+
+/// A run cut off by its room or its round limit wrote a beginning of the whole
+/// list.
+fn check_beginning(whole: &[i32], cut: Vec<i32>) -> Result<(), Failure> {
+    let slips = cut.len() - TRAILER_WORDS;
+    if whole[..slips] == cut[..slips] {
+        return Ok(());
+    }
+    Err(Failure {
+        reason: "a run cut off wrote something else",
+        list: cut,
+    })
 }
 
 fn check_list(all: &Enumerated, list: &[i32], windows: &mut [i32]) -> ReadAnswer {
