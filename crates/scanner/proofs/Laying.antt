@@ -18,8 +18,8 @@ use Rattle.integers.proofs.Linear.{ints}
 use Rattle.integers.proofs.Tests.{and-out, true-is}
 use Rattle.model.specs.Questions.{in-range}
 use Rattle.model.specs.Job.{Job}
-use Rattle.model.specs.Text.{Parsed, parsed, malformed, on, count-in, next-words, next-set, next-sets, at-end, job-of}
-use Rattle.scanner.specs.Layout.{at, count-of, count-at, walked, with-count, up-to, behind-sets, behind-lags, behind-n, behind-cages, layout-of, windows-at, lags-at, sets-at, numbers-of, job-in, told, Roomy, Handed}
+use Rattle.model.specs.Text.{Parsed, parsed, malformed, on, count-in, next-words, next-set, next-sets, limit-at-end, job-of}
+use Rattle.scanner.specs.Layout.{at, count-of, count-at, walked, with-count, fitting, up-to, behind-sets, behind-lags, behind-n, behind-cages, layout-of, windows-at, lags-at, sets-at, numbers-of, job-in, told, Roomy, Handed}
 use Rattle.scanner.specs.Scanner.{state, ended, read, finished}
 use Rattle.scanner.specs.declared.scan.Scan.{Scan}
 use Rattle.scanner.specs.declared.scan.Scan.the-variants.{Between}
@@ -296,21 +296,21 @@ whole h cs ws ls ss =
     record { horizon = h; cage-table = cs; window-table = ws; lag-table = ls; set-table = ss }
 
 module _ (ns : List ℤ) (h : ℤ) where
-  -- The sets' words from place i on, and nothing behind them.
-  abbrev last : List ℤ → List ℤ → List ℤ → ℕ → List ℤ → Parsed Job
-  last cs ws ls s r = on (next-sets s r) (λ y. at-end (whole h cs ws ls (y .0)) (y .1))
+  -- The sets' words from place i on, and behind them nothing, or the round limit.
+  abbrev last : List ℤ → List ℤ → List ℤ → ℕ → List ℤ → Parsed (Job × ℤ)
+  last cs ws ls s r = on (next-sets s r) (λ y. limit-at-end (whole h cs ws ls (y .0)) (y .1))
 
-  abbrev sets-of : List ℤ → List ℤ → List ℤ → List ℤ → Parsed Job
+  abbrev sets-of : List ℤ → List ℤ → List ℤ → List ℤ → Parsed (Job × ℤ)
   sets-of cs ws ls r = on (count-in 0 16 r) (λ s. last cs ws ls (s .0) (s .1))
 
-  abbrev tables-of : List ℤ → ℕ → ℕ → List ℤ → Parsed Job
+  abbrev tables-of : List ℤ → ℕ → ℕ → List ℤ → Parsed (Job × ℤ)
   tables-of cs n m r =
       on (next-words (5 * n) r) (λ w. on (next-words (3 * m) (w .1)) (λ l. sets-of cs (w .0) (l .0) (l .1)))
 
-  abbrev counts-of : List ℤ → List ℤ → Parsed Job
+  abbrev counts-of : List ℤ → List ℤ → Parsed (Job × ℤ)
   counts-of cs r = on (count-in 0 64 r) (λ n. on (count-in 0 256 (n .1)) (λ m. tables-of cs (n .0) (m .0) (m .1)))
 
-  abbrev cages-of : List ℤ → Parsed Job
+  abbrev cages-of : List ℤ → Parsed (Job × ℤ)
   cages-of r = on (count-in 1 8 r) (λ c. on (next-words (4 * c .0) (c .1)) (λ cs. counts-of (cs .0) (cs .1)))
 
 job-first : (h : ℤ) (r : List ℤ) → job-of (h ∷ r) ≡ cages-of (h ∷ r) h r
@@ -343,7 +343,7 @@ words-not ns i k K l f = go (decLe (i + k) (length ns))
     go (yes a) = words-are ns i k K a ∙ f a
     go (no a) = rw (words-part ns i k l, lt-leb (i + k) (length ns) (omega arith))
 
-walked-few : (ns : List ℤ) (s i e : ℕ) → walked ns i s ≡ Is e → e ≤ i + 67 * s
+pub walked-few : (ns : List ℤ) (s i e : ℕ) → walked ns i s ≡ Is e → e ≤ i + 67 * s
 unfolding walked
 walked-few ns zero i e h = let f : i ≡ e = cc in omega arith
 walked-few ns (suc s) i e h = go (count-at ns (i + 2) 0 64) refl (λ k. walked-few ns s (i + 3 + k) e) h
@@ -352,17 +352,14 @@ walked-few ns (suc s) i e h = go (count-at ns (i + 2) 0 64) refl (λ k. walked-f
     go (Is k) q rec f = omega (arith, rec k f, there ns (i + 2) 0 64 k q .few)
     go Outside q rec f = absurd (let x : _≡_ {A = ℕ} 0 1 = cc in omega arith)
 
-none-left : {A : Type 0} (a : A) (ns : List ℤ) → length ns ≡ 0 → at-end a ns ≡ parsed a
-none-left a [] h = refl
-none-left a (z ∷ ns) h = absurd (omega arith)
+more-left : {A : Type 0} (a : A) (ns : List ℤ) → 1 < length ns → limit-at-end a ns ≡ malformed
+more-left a [] h = absurd (omega arith)
+more-left a (z ∷ []) h = absurd (omega arith)
+more-left a (z ∷ w ∷ ns) h = refl
 
-some-left : {A : Type 0} (a : A) (ns : List ℤ) → 0 < length ns → at-end a ns ≡ malformed
-some-left a [] h = absurd (omega arith)
-some-left a (z ∷ ns) h = refl
-
--- A layout that is handed over, of no more than 2197 numbers.
+-- A layout that is handed over, of no more than 2198 numbers.
 abbrev Small : Layout → ℕ → Type 0
-Small (Fits s) n = n ≤ 2197
+Small (Fits s) n = n ≤ 2198
 Small Malformed n = Unit {0}
 
 abbrev Laid : Layout → List ℤ → Type 0
@@ -446,7 +443,7 @@ module _ (ns : List ℤ) (c : ℕ) (p₁ : count-at ns 1 1 8 ≡ Is c) where
         abbrev begin : ℕ
         begin = 5 + 4 * c + 5 * n + 3 * m
 
-        step₄ : job-of ns ≡ on (by-end ns begin (walked ns begin s)) (λ y. at-end (whole h cs ws ls (y .0)) (y .1))
+        step₄ : job-of ns ≡ on (by-end ns begin (walked ns begin s)) (λ y. limit-at-end (whole h cs ws ls (y .0)) (y .1))
         step₄ =
             let u : place + 1 ≡ begin = omega arith in
             step₃
@@ -454,34 +451,41 @@ module _ (ns : List ℤ) (c : ℕ) (p₁ : count-at ns 1 1 8 ≡ Is c) where
             ∙ words-are ns (4 + 4 * c + 5 * n) (3 * m) (sets-of ns h cs ws) (omega (arith, t₄ .place))
             ∙ count-is ns place 0 16 s (last ns h cs ws ls) p₄
             ∙ ap (λ k. last ns h cs ws ls s (drop k ns)) u
-            ∙ ap (λ p. on p (λ y. at-end (whole h cs ws ls (y .0)) (y .1))) (sets-part ns s begin (omega (arith, t₄ .place)))
+            ∙ ap (λ p. on p (λ y. limit-at-end (whole h cs ws ls (y .0)) (y .1))) (sets-part ns s begin (omega (arith, t₄ .place)))
 
         no-end : walked ns begin s ≡ Outside → job-of ns ≡ malformed
         no-end e = step₄ ∙ rw e
 
         module _ (e : ℕ) (p₅ : walked ns begin s ≡ Is e) where
-          step₅ : job-of ns ≡ on (by-words (leb e (length ns)) (take (e - begin) (drop begin ns)) (drop e ns)) (λ y. at-end (whole h cs ws ls (y .0)) (y .1))
+          step₅ : job-of ns ≡ on (by-words (leb e (length ns)) (take (e - begin) (drop begin ns)) (drop e ns)) (λ y. limit-at-end (whole h cs ws ls (y .0)) (y .1))
           step₅ = step₄ ∙ rw p₅
 
-          other-end : (e ≡ length ns → ⊥) → job-of ns ≡ malformed
-          other-end d = step₅ ∙ go (decLe e (length ns))
+          other-end : (e ≡ length ns → ⊥) → (e + 1 ≡ length ns → ⊥) → job-of ns ≡ malformed
+          other-end d f = step₅ ∙ go (decLe e (length ns))
             where
-              go : Dec (e ≤ length ns) → on (by-words (leb e (length ns)) (take (e - begin) (drop begin ns)) (drop e ns)) (λ y. at-end (whole h cs ws ls (y .0)) (y .1)) ≡ malformed
-              go (yes a) = rw (le-leb e (length ns) a) (some-left (whole h cs ws ls (take (e - begin) (drop begin ns))) (drop e ns) (omega (arith, d, length-drop e ns)))
+              go : Dec (e ≤ length ns) → on (by-words (leb e (length ns)) (take (e - begin) (drop begin ns)) (drop e ns)) (λ y. limit-at-end (whole h cs ws ls (y .0)) (y .1)) ≡ malformed
+              go (yes a) = rw (le-leb e (length ns) a) (more-left (whole h cs ws ls (take (e - begin) (drop begin ns))) (drop e ns) (omega (arith, d, f, length-drop e ns)))
               go (no a) = rw (lt-leb e (length ns) (omega arith))
 
-          laid-job : e ≡ length ns → Laid (Fits (record { cages = c; events = n; lags = m; words = e - begin })) ns
-          laid-job q =
+          -- What is left behind the sets says the limit.
+          laid-job : (z : ℤ) → e ≤ length ns → length ns ≤ e + 1 → ((x : Job) → limit-at-end x (drop e ns) ≡ parsed (x, z)) → Laid (fitting c n m e z) ns
+          laid-job z l l′ q =
               let up = walked-up ns s begin e p₅ in
               let few = walked-few ns s begin e p₅ in
               let u : 4 + 4 * c + 5 * n + 3 * m + 1 ≡ begin = omega arith in (
                 record {
-                  says = ap (λ k. parsed (whole h cs ws ls (take (e - begin) (drop k ns)))) u
-                      ∙ sym (step₅ ∙ rw (le-leb e (length ns) (omega arith)) (none-left (whole h cs ws ls (take (e - begin) (drop begin ns))) (drop e ns) (omega (arith, q, length-drop e ns))));
-                  roomy = record { few-cages = t₁ .few; few-events = t₂ .few; few-lags = t₃ .few; few-words = omega (arith, few, t₄ .few); inside = omega (arith, q, up) };
+                  says = ap (λ k. parsed (whole h cs ws ls (take (e - begin) (drop k ns)), z)) u
+                      ∙ sym (step₅ ∙ rw (le-leb e (length ns) l) (q (whole h cs ws ls (take (e - begin) (drop begin ns)))));
+                  roomy = record { few-cages = t₁ .few; few-events = t₂ .few; few-lags = t₃ .few; few-words = omega (arith, few, t₄ .few); inside = omega (arith, l, up) };
                 },
-                omega (arith, q, few, t₁ .few, t₂ .few, t₃ .few, t₄ .few),
+                omega (arith, l′, few, t₁ .few, t₂ .few, t₃ .few, t₄ .few),
               )
+
+          laid-bare : e ≡ length ns → Laid (fitting c n m e (pos 40)) ns
+          laid-bare q = laid-job (pos 40) (omega arith) (omega arith) (λ x. rw (drop-none ns e (omega arith)))
+
+          laid-limit : e + 1 ≡ length ns → Laid (fitting c n m e (at ns e)) ns
+          laid-limit q = laid-job (at ns e) (omega arith) (omega arith) (λ x. rw (drop-one ns e (omega arith), drop-none ns (e + 1) (omega arith)))
 
 -- Count by count, from the last.
 module _ (ns : List ℤ) where
@@ -493,8 +497,10 @@ module _ (ns : List ℤ) where
       go Outside q = none-laid ns (no-end ns c p₁ n p₂ m p₃ s p₄ q)
       go (Is e) q =
           case (eqb e (length ns))
-          (λ t. rw t (laid-job ns c p₁ n p₂ m p₃ s p₄ e q (eqb-true e (length ns) t)))
-          (λ t. rw t (none-laid ns (other-end ns c p₁ n p₂ m p₃ s p₄ e q (eqb-false e (length ns) t))))
+          (λ t. rw t (laid-bare ns c p₁ n p₂ m p₃ s p₄ e q (eqb-true e (length ns) t)))
+          (λ t. case (eqb (e + 1) (length ns))
+          (λ u. rw (t, u) (laid-limit ns c p₁ n p₂ m p₃ s p₄ e q (eqb-true (e + 1) (length ns) u)))
+          (λ u. rw (t, u) (none-laid ns (other-end ns c p₁ n p₂ m p₃ s p₄ e q (eqb-false e (length ns) t) (eqb-false (e + 1) (length ns) u)))))
 
   laid-lags : (c n m : ℕ) → count-at ns 1 1 8 ≡ Is c → count-at ns (2 + 4 * c) 0 64 ≡ Is n → count-at ns (3 + 4 * c) 0 256 ≡ Is m → Laid (behind-lags ns c n m) ns
   unfolding behind-lags
@@ -531,8 +537,8 @@ module _ (ns : List ℤ) where
 pub laid : (ns : List ℤ) → Handed (layout-of ns) ns (job-of ns)
 laid ns = all-laid ns .0
 
--- No job has more than 2197 numbers.
-pub too-many : (ns : List ℤ) → 2197 < length ns → job-of ns ≡ malformed
+-- No job has more than 2198 numbers.
+pub too-many : (ns : List ℤ) → 2198 < length ns → job-of ns ≡ malformed
 too-many ns l = go (layout-of ns) (all-laid ns)
   where
     go : (x : Layout) → Laid x ns → job-of ns ≡ malformed
@@ -550,14 +556,20 @@ module _ {x y : Count} (is : x ≡ y) where
 pub few-there : (ns : List ℤ) (i l m : ℕ) {x : Count} {k : ℕ} → x ≡ count-at ns i l m → x ≡ Is k → k ≤ m
 few-there ns i l m is e = there ns i l m _ (sym is ∙ e) .few
 
--- Sets that end with the numbers, or elsewhere.
-pub fits : (ns : List ℤ) (c n m : ℕ) {e : ℕ} → e ≡ length ns → Fits (record { cages = c; events = n; lags = m; words = e - (5 + 4 * c + 5 * n + 3 * m) }) ≡ up-to ns c n m e
-unfolding up-to
-fits ns c n m {e} h = rw (eq-eqb e (length ns) h)
+-- Sets that end with the numbers, one before them, or elsewhere.
+module _ (ns : List ℤ) (c n m : ℕ) {e : ℕ} where
+  pub fits : e ≡ length ns → fitting c n m e (pos 40) ≡ up-to ns c n m e
+  unfolding up-to
+  fits h = rw (eq-eqb e (length ns) h)
 
-pub fits-not : (ns : List ℤ) (c n m : ℕ) {e : ℕ} → (e ≡ length ns → ⊥) → Malformed ≡ up-to ns c n m e
-unfolding up-to
-fits-not ns c n m {e} h = rw (ne-eqb e (length ns) h)
+  module _ (d : e ≡ length ns → ⊥) where
+    pub fits-limit : e + 1 ≡ length ns → fitting c n m e (at ns e) ≡ up-to ns c n m e
+    unfolding up-to
+    fits-limit h = rw (ne-eqb e (length ns) d, eq-eqb (e + 1) (length ns) h)
+
+    pub fits-not : (e + 1 ≡ length ns → ⊥) → Malformed ≡ up-to ns c n m e
+    unfolding up-to
+    fits-not h = rw (ne-eqb e (length ns) d, ne-eqb (e + 1) (length ns) h)
 
 -- ---- the end of the text
 

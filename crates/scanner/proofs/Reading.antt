@@ -154,7 +154,7 @@ abbrev joined : List ℕ → Parsed (List ℤ) → Parsed (List ℤ)
 joined w p = on (token w) (λ xs. on p (λ ys. parsed (xs ++ ys)))
 
 -- The job that is said by the numbers in the table, then p.
-abbrev meant : ℕ → List ℤ → Parsed (List ℤ) → Parsed Job
+abbrev meant : ℕ → List ℤ → Parsed (List ℤ) → Parsed (Job × ℤ)
 meant n t p = on p (λ ys. job-of (take n t ++ ys))
 
 -- A token has ended: its number is stored, or no text begins so.
@@ -163,7 +163,7 @@ record Stored (n : ℕ) (t : List ℤ) (w : List ℕ) (s : State) : Type 0 where
   table : List ℤ
   is : s ≡ state (Between many) table
   room : many ≤ length table
-  long : 2197 ≤ length table
+  long : 2198 ≤ length table
   found : List ℤ
   says : token w ≡ parsed found
   read-so-far : take n t ++ found ≡ take many table
@@ -171,7 +171,7 @@ record Stored (n : ℕ) (t : List ℤ) (w : List ℕ) (s : State) : Type 0 where
 abbrev Ends : ℕ → List ℤ → List ℕ → State → Type 0
 Ends n t w s = Stored n t w s ⊎ ((s ≡ state Malformed t) × ((p : Parsed (List ℤ)) → meant n t (joined w p) ≡ malformed))
 
-stored-one : (n : ℕ) (z : ℤ) (t : List ℤ) (w : List ℕ) → 2197 ≤ length t → n < length t → token w ≡ parsed (z ∷ []) → Stored n t w (state (Between (n + 1)) (set t n z))
+stored-one : (n : ℕ) (z : ℤ) (t : List ℤ) (w : List ℕ) → 2198 ≤ length t → n < length t → token w ≡ parsed (z ∷ []) → Stored n t w (state (Between (n + 1)) (set t n z))
 stored-one n z t w l h e =
     record {
       many = n + 1;
@@ -184,14 +184,14 @@ stored-one n z t w l h e =
       read-so-far = rw (add-one n) (sym (take-suc-set t n z (omega arith)));
     }
 
-one-too-many : (n : ℕ) (z : ℤ) (t : List ℤ) (w : List ℕ) → 2197 ≤ length t → length t ≤ n → token w ≡ parsed (z ∷ []) → (p : Parsed (List ℤ)) → meant n t (joined w p) ≡ malformed
+one-too-many : (n : ℕ) (z : ℤ) (t : List ℤ) (w : List ℕ) → 2198 ≤ length t → length t ≤ n → token w ≡ parsed (z ∷ []) → (p : Parsed (List ℤ)) → meant n t (joined w p) ≡ malformed
 one-too-many n z t w l h e p = rw e (go p)
   where
     go : (p : Parsed (List ℤ)) → meant n t (on p (λ ys. parsed (z ∷ ys))) ≡ malformed
     go (parsed ys) = too-many (take n t ++ (z ∷ ys)) (omega (arith, length-append (take n t) (z ∷ ys), length-take n t))
     go malformed = refl
 
-ends-in : (n : ℕ) (z : ℤ) (t : List ℤ) (w : List ℕ) → 2197 ≤ length t → token w ≡ parsed (z ∷ []) → Ends n t w (kept n z t)
+ends-in : (n : ℕ) (z : ℤ) (t : List ℤ) (w : List ℕ) → 2198 ≤ length t → token w ≡ parsed (z ∷ []) → Ends n t w (kept n z t)
 ends-in n z t w l e =
     case (ltb n (length t))
     (λ y. subst (λ (s : State). Ends n t w s) (sym (rw y)) (inl (stored-one n z t w l (ltb-true n (length t) y) e)))
@@ -201,7 +201,7 @@ token-whole : (negative : Bool) (d : ℕ) (u : List ℕ) {x : ℕ} → digit d �
 token-whole negative d u e f =
     token-of negative d u e ∙ ap (λ (p : Parsed ℕ). on p (λ y. one-number (signed negative y))) f
 
-ends : (n : ℕ) (t : List ℤ) {s : Scan} {w : List ℕ} → 2197 ≤ length t → n ≤ length t → Opened n s w → Ends n t w (ended s t)
+ends : (n : ℕ) (t : List ℤ) {s : Scan} {w : List ℕ} → 2198 ≤ length t → n ≤ length t → Opened n s w → Ends n t w (ended s t)
 ends n t l h no-token =
     inl (record { many = n; table = t; is = refl; room = h; long = l; found = []; says = refl; read-so-far = append-nil (take n t) })
 ends n t l h sign-alone = inr (refl, λ p. refl)
@@ -228,7 +228,7 @@ step-after : (s : Scan) (t : List ℤ) (b : ℕ) → blank b ≡ false → step 
 unfolding step
 step-after s t b e = rw e
 
-abbrev finished-after : State → List ℕ → Parsed Job
+abbrev finished-after : State → List ℕ → Parsed (Job × ℤ)
 finished-after s text = finished (fed s text)
 
 stays : (t : List ℤ) (text : List ℕ) → finished-after (state Malformed t) text ≡ malformed
@@ -256,7 +256,7 @@ so-far {n} {t} k (parsed ys) =
 so-far k malformed = rw (k .says)
 
 -- What a state says of the text to come.
-reading : (text : List ℕ) (n : ℕ) (t : List ℤ) (s : Scan) (w : List ℕ) → 2197 ≤ length t → n ≤ length t → Opened n s w → finished-after (state s t) text ≡ meant n t (numbers-behind w text)
+reading : (text : List ℕ) (n : ℕ) (t : List ℤ) (s : Scan) (w : List ℕ) → 2198 ≤ length t → n ≤ length t → Opened n s w → finished-after (state s t) text ≡ meant n t (numbers-behind w text)
 unfolding fed numbers-behind
 reading [] n t s w l h o =
     ⊎-elim
@@ -288,6 +288,6 @@ reading (b ∷ text) n t s w l h o =
     ∙ ap (meant n t) (sym (behind-other w b text y)))
 
 -- A text fed to a fresh scanner, and finished, is read as the definition says.
-pub reads : (t : List ℤ) (text : List ℕ) → 2197 ≤ length t → finished (fed (state (Between 0) t) text) ≡ job-text text
+pub reads : (t : List ℤ) (text : List ℕ) → 2198 ≤ length t → finished (fed (state (Between 0) t) text) ≡ job-text text
 unfolding job-text
 reads t text l = reading text 0 t (Between 0) [] l (omega arith) no-token

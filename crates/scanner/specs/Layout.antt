@@ -1,4 +1,4 @@
--- The job of a text as the code hands it over: its sizes, and its words where they stand in the table; how the code finds them, count by count.
+-- The job of a text as the code hands it over: its sizes, its round limit, and its words where they stand in the table; how the code finds them, count by count.
 use mathlib.Core.Path.{_≡_}
 use mathlib.Core.Bool.{cond}
 use mathlib.Core.List.{List}
@@ -55,19 +55,25 @@ job-in t s =
       set-table = take (s .words) (drop (sets-at s) t);
     }
 
-abbrev pub told : Layout → List ℤ → Parsed Job
-told (Fits s) t = parsed (job-in t s)
+-- The job and its round limit.
+abbrev pub told : Layout → List ℤ → Parsed (Job × ℤ)
+told (Fits s) t = parsed (job-in t s, s .limit)
 told Malformed t = malformed
 
--- How numbers are laid out: a count at its place, and what follows from it; nothing is behind the sets.
+-- How numbers are laid out: a count at its place, and what follows from it; behind the sets is nothing, or the round limit.
 abbrev pub with-count : Count → (ℕ → Layout) → Layout
 with-count (Is n) f = f n
 with-count Outside f = Malformed
 
 -- c cages, n events, m lags, and sets whose words end before place e.
+abbrev pub fitting : ℕ → ℕ → ℕ → ℕ → ℤ → Layout
+fitting c n m e limit =
+    Fits (record { cages = c; events = n; lags = m; words = e - (5 + 4 * c + 5 * n + 3 * m); limit = limit })
+
 unfoldable pub up-to : List ℤ → ℕ → ℕ → ℕ → ℕ → Layout
 up-to ns c n m e =
-    cond (eqb e (length ns)) (Fits (record { cages = c; events = n; lags = m; words = e - (5 + 4 * c + 5 * n + 3 * m) })) Malformed
+    cond (eqb e (length ns)) (fitting c n m e (pos 40))
+    (cond (eqb (e + 1) (length ns)) (fitting c n m e (at ns e)) Malformed)
 
 unfoldable pub behind-sets : List ℤ → ℕ → ℕ → ℕ → ℕ → Layout
 behind-sets ns c n m s = with-count (walked ns (5 + 4 * c + 5 * n + 3 * m) s) (up-to ns c n m)
@@ -97,6 +103,6 @@ Roomy (Fits s) t = Room s t
 Roomy Malformed t = Unit {0}
 
 -- What is handed over says j.
-pub record Handed (l : Layout) (t : List ℤ) (j : Parsed Job) : Type 0 where
+pub record Handed (l : Layout) (t : List ℤ) (j : Parsed (Job × ℤ)) : Type 0 where
   pub says : told l t ≡ j
   pub roomy : Roomy l t

@@ -68,16 +68,16 @@ fed s [] = s
 fed s (b ∷ bytes) = fed (step s b) bytes
 
 -- The end of the text ends its last token.
-abbrev pub read : State → Parsed Job
+abbrev pub read : State → Parsed (Job × ℤ)
 read s = go (s .scan)
   where
-    go : Scan → Parsed Job
+    go : Scan → Parsed (Job × ℤ)
     go (Between n) = job-of (take n (s .table))
     go (Minus n) = malformed
     go (Digits n negative v) = malformed
     go Malformed = malformed
 
-abbrev pub finished : State → Parsed Job
+abbrev pub finished : State → Parsed (Job × ℤ)
 finished s = read (ended (s .scan) (s .table))
 
 -- ---- pieces

@@ -1,25 +1,29 @@
 // The job that a whole text says: how its numbers, as they stand in the table, are laid out.
 ghost use mathlib.Core.Path.{_≡_};
-ghost use Prim.Native.Nat.{_≤_, min};
+ghost use Prim.Native.Nat.{_+_, _*_, _≤_, min};
 ghost use lib.ListN.{take};
 ghost use Rattle.model.specs.Text.{job-of};
 ghost use Rattle.scanner.specs.Scanner.{state, finished};
-ghost use Rattle.scanner.specs.Layout.{count-of, count-at, walked, behind-sets, behind-lags, behind-n, behind-cages, layout-of, Handed};
+ghost use Rattle.scanner.specs.Layout.{count-of, count-at, walked, up-to, behind-sets, behind-lags, behind-n, behind-cages, layout-of, Handed};
 use crate::scan::Scan;
 use crate::scan::end_token;
 
-// H, a count and 4 words a cage of 8, two counts, 5 words an event of 64, 3 words a lag of 256, a count, 3 words a set of 16 and its members of 64: no job has more numbers.
-pub const MOST_NUMBERS: usize = 2197;
+// H, a count and 4 words a cage of 8, two counts, 5 words an event of 64, 3 words a lag of 256, a count, 3 words a set of 16 and its members of 64, a round limit: no job has more numbers.
+pub const MOST_NUMBERS: usize = 2198;
 
-// How many cages, events and lags there are, and how many words of sets.
+// The round limit of a text that says none.
+pub const DEFAULT_LIMIT: i32 = 40;
+
+// How many cages, events and lags there are, and how many words of sets; the round limit.
 pub struct Sizes {
     pub cages: usize,
     pub events: usize,
     pub lags: usize,
     pub words: usize,
+    pub limit: i32,
 }
 
-// How numbers are laid out: H, the number of cages and their words, n m, then n events, m lags, the number of sets and their words; or otherwise, which is 20.
+// How numbers are laid out: H, the number of cages and their words, n m, then n events, m lags, the number of sets and their words, and a round limit or none; or otherwise, which is 20.
 pub enum Layout {
     Fits(Sizes),
     Malformed,
@@ -82,6 +86,33 @@ fn walk(numbers: &[i32], i: usize, sets: usize) -> Count
     Count::Is(at)
 }
 
+// The layout of numbers whose sets' words end before place e: with no number behind them, or one, which is the round limit.
+fn up_to(numbers: &[i32], cages: usize, events: usize, lags: usize, e: usize) -> Layout
+    requires { ⌜ (cages ≤ 8) × (events ≤ 64) × (lags ≤ 256) × (5 + 4 * cages + 5 * events + 3 * lags ≤ e) × (e ≤ 4000) ⌝ }
+    ensures { λ r. ⌜ r ≡ up-to (now (numbers .entry)) cages events lags e ⌝ }
+{
+    let words = e - (5 + 4 * cages + 5 * events + 3 * lags);
+    if e == numbers.len() {
+        return Layout::Fits(Sizes {
+            cages,
+            events,
+            lags,
+            words,
+            limit: DEFAULT_LIMIT,
+        });
+    }
+    if e + 1 == numbers.len() {
+        return Layout::Fits(Sizes {
+            cages,
+            events,
+            lags,
+            words,
+            limit: numbers[e],
+        });
+    }
+    Layout::Malformed
+}
+
 // How numbers are laid out whose sets begin behind so many cages, events and lags.
 fn behind_sets(numbers: &[i32], cages: usize, events: usize, lags: usize, sets: usize) -> Layout
     requires { ⌜ (cages ≤ 8) × (events ≤ 64) × (lags ≤ 256) × (sets ≤ 16) ⌝ }
@@ -92,15 +123,7 @@ fn behind_sets(numbers: &[i32], cages: usize, events: usize, lags: usize, sets: 
     let Count::Is(last) = end else {
         return Layout::Malformed;
     };
-    if last == numbers.len() {
-        return Layout::Fits(Sizes {
-            cages,
-            events,
-            lags,
-            words: last - begin,
-        });
-    }
-    Layout::Malformed
+    up_to(numbers, cages, events, lags, last)
 }
 
 // The number of sets behind the lags.

@@ -1,9 +1,9 @@
--- `scanner::layout::behind_sets`: the sets walked to their end, which is that of the numbers. Assumes nothing.
+-- `scanner::layout::behind_sets`: the sets walked to their end, then what is behind it. Assumes nothing.
 use mathlib.Core.Path.{sym, _∙_}
 use Prim.Native.Nat.{_+_, _*_}
 use native.Mathlib.Omega.{arith}
 use Rattle.scanner.specs.Layout.{up-to, behind-sets}
-use Rattle.scanner.proofs.Laying.{goes-on, ends-here, walked-up, fits, fits-not}
+use Rattle.scanner.proofs.Laying.{goes-on, ends-here, walked-up, walked-few}
 use borrow.Author.Needs.{needs}
 use Rattle.scanner.proofs.layout.behind_sets.Statement.{statement}
 use Rattle.scanner.proofs.layout.behind_sets.Tie as tie
@@ -41,25 +41,20 @@ returns c =
     let a = c .before .before .before .args in
     ends-here (c .before .before .walk .ensures) (up-to (a .numbers .now) (a .cages) (a .events) (a .lags)) (c .enum-told .given .1)
 
-sub-t15 : tie.Need-sub-t15
-sub-t15 c =
-    let a = c .before .before .before .before .before .args in
-    let up = walked-up (a .numbers .now) (a .sets) (5 + 4 * a .cages + 5 * a .events + 3 * a .lags) _ (sym (c .before .before .before .before .walk .ensures) ∙ c .before .before .end .given .1) in
-    omega arith
+up-to-requires : tie.Need-up-to-requires
+up-to-requires c κs =
+    let s = c .before .before .before .before in
+    let a = s .args in
+    let walked = sym (c .before .before .before .walk .ensures) ∙ c .before .end .given .1 in
+    let up = walked-up (a .numbers .now) (a .sets) (5 + 4 * a .cages + 5 * a .events + 3 * a .lags) _ walked in
+    let few = walked-few (a .numbers .now) (a .sets) (5 + 4 * a .cages + 5 * a .events + 3 * a .lags) _ walked in
+    (s .pre .0, s .pre .1, s .pre .2, up, omega arith)
 
 returns-2 : tie.Need-returns-2
 unfolding behind-sets
 returns-2 c =
     let a = c .before .before .before .before .before .args in
-    fits (a .numbers .now) (a .cages) (a .events) (a .lags) (c .if1 .taken)
-    ∙ goes-on (c .before .before .before .before .walk .ensures) (up-to (a .numbers .now) (a .cages) (a .events) (a .lags)) (c .before .before .end .given .1)
-
-returns-3 : tie.Need-returns-3
-unfolding behind-sets
-returns-3 c =
-    let a = c .before .before .before .before .before .args in
-    fits-not (a .numbers .now) (a .cages) (a .events) (a .lags) (c .if1 .left)
-    ∙ goes-on (c .before .before .before .before .walk .ensures) (up-to (a .numbers .now) (a .cages) (a .events) (a .lags)) (c .before .before .end .given .1)
+    c .up-to .ensures ∙ goes-on (c .before .before .before .before .walk .ensures) (up-to (a .numbers .now) (a .cages) (a .events) (a .lags)) (c .before .before .end .given .1)
 
 pub behind-sets-spec : {M : Type 1} → statement M
 behind-sets-spec =
@@ -75,6 +70,5 @@ behind-sets-spec =
     enum-known-end
     enum-told
     returns
-    sub-t15
-    returns-2
-    returns-3)
+    up-to-requires
+    returns-2)
