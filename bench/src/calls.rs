@@ -17,30 +17,14 @@ pub const CONFLICT: i32 = 1;
 pub const STOPPED: i32 = 2;
 pub const OPEN: i32 = 3;
 
-/// A call of the static library: a table is a pointer and a length. The list,
-/// the planner's buffer, is written by the planner alone.
-type Call<List> = unsafe extern "C" fn(
-    h: i32,
-    cages: *const i32,
-    cage_words: usize,
-    table: *mut i32,
-    table_words: usize,
-    lags: *const i32,
-    lag_words: usize,
-    sets: *const i32,
-    set_words: usize,
-    list: List,
-    list_words: usize,
-    answer: *mut i32,
-    answer_words: usize,
-) -> i32;
-
+// The static library: a table is a pointer and a length. Window table and slip
+// buffer are written, the others only read.
 #[allow(clippy::too_many_arguments)]
 #[rustfmt::skip]
 extern "C" {
     fn orthmuzi_plan(
         h: i32, cages: *const i32, cage_words: usize, table: *mut i32, table_words: usize, lags: *const i32, lag_words: usize,
-        sets: *const i32, set_words: usize, buffer: *mut i32, buffer_words: usize, answer: *mut i32, answer_words: usize,
+        sets: *const i32, set_words: usize, limit: i32, buffer: *mut i32, buffer_words: usize, answer: *mut i32, answer_words: usize,
     ) -> i32;
     fn orthmuzi_read(
         h: i32, cages: *const i32, cage_words: usize, table: *mut i32, table_words: usize, lags: *const i32, lag_words: usize,
@@ -48,18 +32,15 @@ extern "C" {
     ) -> i32;
 }
 
-/// The answer of a call whose list is lent for it.
-fn answered<List>(
-    call: Call<List>,
-    job: &RawJob,
-    windows: &mut [i32],
-    list: List,
-    list_words: usize,
-) -> Answer {
+/// No round limit.
+const NO_LIMIT: i32 = 0;
+
+/// The proved planner.
+pub fn proved_plan(job: &RawJob, windows: &mut [i32], buffer: &mut [i32]) -> Answer {
     let mut words = [0; 5];
     // SAFETY: each pointer and length is that of a slice lent for the call.
     let number = unsafe {
-        call(
+        orthmuzi_plan(
             job.horizon,
             job.cages.as_ptr(),
             job.cages.len(),
@@ -69,8 +50,9 @@ fn answered<List>(
             job.lags.len(),
             job.sets.as_ptr(),
             job.sets.len(),
-            list,
-            list_words,
+            NO_LIMIT,
+            buffer.as_mut_ptr(),
+            buffer.len(),
             words.as_mut_ptr(),
             words.len(),
         )
@@ -78,20 +60,28 @@ fn answered<List>(
     Answer { number, words }
 }
 
-/// The proved planner.
-pub fn proved_plan(job: &RawJob, windows: &mut [i32], buffer: &mut [i32]) -> Answer {
-    answered(
-        orthmuzi_plan,
-        job,
-        windows,
-        buffer.as_mut_ptr(),
-        buffer.len(),
-    )
-}
-
 /// The proved reader.
 pub fn proved_read(job: &RawJob, windows: &mut [i32], list: &[i32]) -> Answer {
-    answered(orthmuzi_read, job, windows, list.as_ptr(), list.len())
+    let mut words = [0; 5];
+    // SAFETY: each pointer and length is that of a slice lent for the call.
+    let number = unsafe {
+        orthmuzi_read(
+            job.horizon,
+            job.cages.as_ptr(),
+            job.cages.len(),
+            windows.as_mut_ptr(),
+            windows.len(),
+            job.lags.as_ptr(),
+            job.lags.len(),
+            job.sets.as_ptr(),
+            job.sets.len(),
+            list.as_ptr(),
+            list.len(),
+            words.as_mut_ptr(),
+            words.len(),
+        )
+    };
+    Answer { number, words }
 }
 
 fn taken(outcome: i32, tally: Tally) -> Answer {
@@ -111,7 +101,7 @@ fn refused(refusal: Refusal) -> Answer {
 
 /// The second program's planner.
 pub fn second_plan(job: &RawJob, windows: &mut [i32], buffer: &mut [i32]) -> Answer {
-    match plan(&job.settings(), windows, buffer) {
+    match plan(&job.settings(), windows, NO_LIMIT, buffer) {
         PlanAnswer::Settled(tally) => taken(SETTLED, tally),
         PlanAnswer::Conflict(tally) => taken(CONFLICT, tally),
         PlanAnswer::Stopped(tally) => taken(STOPPED, tally),
