@@ -1,6 +1,6 @@
 // Runs the cases that standard input holds, one after the other, and prints each with its words.
 // A case is a line that names it, with a number sign in front, then numbers in the layout of a stream's record (`second/README.md`):
-// 1 planner or 2 reader, H, the words of the cage table, of the window table, of the lag table, of the set table, of the buffer or list; then these words.
+// 1 planner or 2 reader, H, the round limit (0 for the reader), the words of the cage table, of the window table, of the lag table, of the set table, of the buffer or list; then these words.
 mod print;
 
 use print::judged;
@@ -55,7 +55,15 @@ fn call(
     list: &mut [i32],
 ) {
     if numbers[0] == 1 {
-        let checked = reservoir::plan_and_read(numbers[1], cages, table, lags, sets, list);
+        let checked = reservoir::plan_and_read(
+            numbers[1],
+            cages,
+            table,
+            lags,
+            sets,
+            numbers[2],
+            list,
+        );
         let answer = checked.answer;
         let judgement = checked.judgement;
         let length = planned(answer);
@@ -83,13 +91,13 @@ fn cut(
     sets: &mut [i32],
     list: &mut [i32],
 )
-    requires { ⌜ 7 + length (now cages) + length (now table) + length (now lags) + length (now sets) + length (now list) ≤ 1030 ⌝ }
+    requires { ⌜ 8 + length (now cages) + length (now table) + length (now lags) + length (now sets) + length (now list) ≤ 1030 ⌝ }
 {
-    let w = 7 + cages.len();
+    let w = 8 + cages.len();
     let g = w + table.len();
     let s = g + lags.len();
     let b = s + sets.len();
-    copy(numbers, 7, cages);
+    copy(numbers, 8, cages);
     copy(numbers, w, table);
     copy(numbers, g, lags);
     copy(numbers, s, sets);
@@ -107,11 +115,11 @@ fn sized(
     sets: &mut [i32],
     list: &mut [i32],
 ) -> bool {
-    let c = size(numbers[2]);
-    let w = size(numbers[3]);
-    let g = size(numbers[4]);
-    let s = size(numbers[5]);
-    let b = size(numbers[6]);
+    let c = size(numbers[3]);
+    let w = size(numbers[4]);
+    let g = size(numbers[5]);
+    let s = size(numbers[6]);
+    let b = size(numbers[7]);
     if cages.len() < c {
         return false;
     }
@@ -130,7 +138,7 @@ fn sized(
     if 1030 < n {
         return false;
     }
-    if n != 7 + c + w + g + s + b {
+    if n != 8 + c + w + g + s + b {
         return false;
     }
     cut(

@@ -15,10 +15,10 @@ use Rattle.model.specs.Job.{Windows, windows, widest, cage-at, cages, Job, even
 use Rattle.model.specs.Rules.{own-end, bound, effect, is-narrowing}
 use Rattle.model.specs.Slips.{Explanation, slip-length, premise-count, slip-at, rule-of, target-of}
 use Rattle.model.specs.Rounds.{Verdict, settled, conflict, stopped, still-open}
-use Rattle.model.specs.Questions.{Check, pass, refuse, _then_, ask, each, horizon-right, cages-whole, limits-right, stock-right, cover-right, events-whole, times-right, heights-right, cage-right, lags-whole, lag-events, lag-differs, lag-in-range, set-whole, members-right, totals-right, room-right, cage-questions, window-questions, lag-questions, set-questions, own-questions, questions}
+use Rattle.model.specs.Questions.{Check, pass, refuse, _then_, ask, each, horizon-right, cages-whole, limits-right, stock-right, cover-right, events-whole, times-right, heights-right, cage-right, lags-whole, lag-events, lag-differs, lag-in-range, set-whole, members-right, totals-right, room-right, cage-questions, window-questions, lag-questions, set-questions, first-questions, last-questions, own-questions, questions, limit-right, plan-questions}
 use Rattle.model.specs.Planner.{refused, done, Outcome, plan}
 use Rattle.model.specs.Reader.{whole, reading, names, all-true, narrowed, is-conflict, gives, slip-questions, applied, Read, read-from, stop-of, counted, marked, ends-right, read-all, accepted, judged, check}
-use Rattle.model.proofs.Questions.{then-out, ask-out, begun-most, asked}
+use Rattle.model.proofs.Questions.{then-out, ask-out, begun-most, asked, limit-asked}
 use Rattle.model.proofs.Reading.{slip-ends}
 use Rattle.model.proofs.Rounds.{slips-room}
 use Rattle.model.proofs.Refusals.{run-in, plan-refused, plan-planned, run-finished, check-refused, check-judged}
@@ -109,14 +109,27 @@ set-low n ws =
     some = omega (arith, begun-most ws 17)
 
 module _ (j : Job) where
+  first-low : Low (first-questions j)
+  first-low =
+      then-low (cage-questions (j .horizon) (j .cage-table)) _ (cage-low (j .horizon) (j .cage-table))
+      (λ _. then-low (window-questions (j .horizon) (cages j) (j .window-table)) _ (window-low (j .horizon) (cages j) (j .window-table))
+      (λ _. lag-low (events j) (j .lag-table)))
+
+  last-low : (room : ℕ) → Low (last-questions j then ask 11 (room-right room))
+  last-low room =
+      then-low (last-questions j) _ (set-low (events j) (j .set-table)) (λ _. ask-low 11 (room-right room) (omega arith))
+
   questions-low : (room : ℕ) → Low (questions j room)
   unfolding questions own-questions
   questions-low room =
       then-low (own-questions j) (ask 11 (room-right room))
-      (then-low (cage-questions (j .horizon) (j .cage-table)) _ (cage-low (j .horizon) (j .cage-table))
-      (λ _. then-low (window-questions (j .horizon) (cages j) (j .window-table)) _ (window-low (j .horizon) (cages j) (j .window-table))
-      (λ _. then-low (lag-questions (events j) (j .lag-table)) _ (lag-low (events j) (j .lag-table)) (λ _. set-low (events j) (j .set-table)))))
+      (then-low (first-questions j) (last-questions j) first-low (λ _. set-low (events j) (j .set-table)))
       (λ _. ask-low 11 (room-right room) (omega arith))
+
+  plan-low : (limit : ℤ) (room : ℕ) → Low (plan-questions j limit room)
+  unfolding plan-questions
+  plan-low limit room =
+      then-low (first-questions j) _ first-low (λ _. then-low (ask 28 (limit-right limit)) _ (ask-low 28 (limit-right limit) (omega arith)) (λ _. last-low room))
 
   -- ---- the planner
 
@@ -134,19 +147,19 @@ module _ (j : Job) where
   done-small v slips rounds len l m n =
       record { number = omega arith; place = omega arith; outcome = outcome-low v; slips = l; rounds = m; length = n }
 
-  pub plan-small : (buffer : List ℤ) → Small (numbers-of (plan j buffer .reply))
-  plan-small buffer = go (questions j (length buffer)) refl
+  pub plan-small : (limit : ℤ) (buffer : List ℤ) → Small (numbers-of (plan j limit buffer .reply))
+  plan-small limit buffer = go (plan-questions j limit (length buffer)) refl
     where
-      go : (c : Check) → questions j (length buffer) ≡ c → Small (numbers-of (plan j buffer .reply))
-      go (refuse number place) e = rw (plan-refused j buffer number place e) (refused-small number place (rw e at (questions-low (length buffer))))
+      go : (c : Check) → plan-questions j limit (length buffer) ≡ c → Small (numbers-of (plan j limit buffer .reply))
+      go (refuse number place) e = rw (plan-refused j limit buffer number place e) (refused-small number place (rw e at (plan-low limit (length buffer))))
       go pass e =
-          let r = run-in j buffer in
-          let f = run-finished j buffer e in
-          let a = asked j (length buffer) e .room-high in
+          let r = run-in j limit buffer in
+          let f = run-finished j limit buffer e in
+          let a = asked j (length buffer) (limit-asked j limit (length buffer) e .0) .room-high in
           let k = slips-room (length buffer) j (r .state) (f .kept) in
           let t = f .kept .trailer-fits in
           let m = f .counted in
-          rw (plan-planned j buffer e) (done-small (r .verdict) (r .state .slips) (r .rounds) (length (r .state .log) + 3) (omega arith) (omega arith) (omega arith))
+          rw (plan-planned j limit buffer e) (done-small (r .verdict) (r .state .slips) (r .rounds) (length (r .state .log) + 3) (omega arith) (omega arith) (omega arith))
 
   -- ---- the reader
 

@@ -107,15 +107,16 @@ pub extern "C" fn orthmuzi_plan(
     table: &mut [i32],
     lags: &[i32],
     sets: &[i32],
+    limit: i32,
     buffer: &mut [i32],
     words: &mut [i32],
 ) -> i32
-    ensures number { λ r. ⌜ r ≡ pos (numbers-of (plan (call h (now (cages .entry)) (now (table .entry)) (now (lags .entry)) (now (sets .entry))) (now (buffer .entry)) .reply) .number) ⌝ }
-    ensures answer { λ r. ⌜ now (words .exit) ≡ told (numbers-of (plan (call h (now (cages .entry)) (now (table .entry)) (now (lags .entry)) (now (sets .entry))) (now (buffer .entry)) .reply)) (now (words .entry)) ⌝ }
-    ensures windows { λ r. ⌜ now (table .exit) ≡ plan (call h (now (cages .entry)) (now (table .entry)) (now (lags .entry)) (now (sets .entry))) (now (buffer .entry)) .table ⌝ }
-    ensures slips { λ r. ⌜ now (buffer .exit) ≡ plan (call h (now (cages .entry)) (now (table .entry)) (now (lags .entry)) (now (sets .entry))) (now (buffer .entry)) .buffer ⌝ }
+    ensures number { λ r. ⌜ r ≡ pos (numbers-of (plan (call h (now (cages .entry)) (now (table .entry)) (now (lags .entry)) (now (sets .entry))) limit (now (buffer .entry)) .reply) .number) ⌝ }
+    ensures answer { λ r. ⌜ now (words .exit) ≡ told (numbers-of (plan (call h (now (cages .entry)) (now (table .entry)) (now (lags .entry)) (now (sets .entry))) limit (now (buffer .entry)) .reply)) (now (words .entry)) ⌝ }
+    ensures windows { λ r. ⌜ now (table .exit) ≡ plan (call h (now (cages .entry)) (now (table .entry)) (now (lags .entry)) (now (sets .entry))) limit (now (buffer .entry)) .table ⌝ }
+    ensures slips { λ r. ⌜ now (buffer .exit) ≡ plan (call h (now (cages .entry)) (now (table .entry)) (now (lags .entry)) (now (sets .entry))) limit (now (buffer .entry)) .buffer ⌝ }
 {
-    let a = plan(h, cages, table, lags, sets, buffer);
+    let a = plan(h, cages, table, lags, sets, limit, buffer);
     tell(planned(a), words)
 }
 

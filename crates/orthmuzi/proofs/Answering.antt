@@ -31,33 +31,33 @@ pub told : {s : Scan} {t : List ℤ} {buffer : List ℕ} {n : ℕ} → Heard s t
 told h p = record { pieces = h .pieces; all = h .all; prints = p .are ∙ ap answered (h .says) }
 
 -- The planner's reply and its windows, printed.
-pub planned-text : (cs w l g : List ℤ) {h h′ : ℤ} {reply : Reply} {u : List ℤ} {buffer : List ℕ} {n : ℕ} → h′ ≡ h → reply ≡ plan (call h′ cs w l g) slip-room .reply → u ≡ plan (call h′ cs w l g) slip-room .table → Printed buffer n (printed reply u) → Printed buffer n (answered (parsed (call h cs w l g)))
-planned-text cs w l g e f k p = rw (← e) (printed-as (rw (f, k)) p)
+pub planned-text : (cs w l g : List ℤ) {h h′ b b′ : ℤ} {reply : Reply} {u : List ℤ} {buffer : List ℕ} {n : ℕ} → h′ ≡ h → b′ ≡ b → reply ≡ plan (call h′ cs w l g) b′ slip-room .reply → u ≡ plan (call h′ cs w l g) b′ slip-room .table → Printed buffer n (printed reply u) → Printed buffer n (answered (parsed (call h cs w l g, b)))
+planned-text cs w l g e e′ f k p = rw (← e, ← e′) (printed-as (rw (f, k)) p)
 
 -- ---- what is handed over
 
-pub answered-as : {i j : Parsed Job} {buffer : List ℕ} {n : ℕ} → i ≡ j → Printed buffer n (answered i) → Printed buffer n (answered j)
+pub answered-as : {i j : Parsed (Job × ℤ)} {buffer : List ℕ} {n : ℕ} → i ≡ j → Printed buffer n (answered i) → Printed buffer n (answered j)
 answered-as e p = printed-as (ap answered e) p
 
-module _ {l : Layout} {t : List ℤ} {j : Parsed Job} (handed : Handed l t j) where
+module _ {l : Layout} {t : List ℤ} {j : Parsed (Job × ℤ)} (handed : Handed l t j) where
   pub handed-none : l ≡ Malformed → malformed ≡ j
   handed-none e = rw e at (handed .says)
 
-  pub handed-job : {s : Sizes} → l ≡ Fits s → parsed (job-in t s) ≡ j
+  pub handed-job : {s : Sizes} → l ≡ Fits s → parsed (job-in t s, s .limit) ≡ j
   handed-job e = rw e at (handed .says)
 
   pub handed-room : {s : Sizes} → l ≡ Fits s → Room s t
   handed-room e = rw e at (handed .roomy)
 
 -- The job in a table, from its words.
-pub job-at : (t : List ℤ) (s : Sizes) {h : ℤ} {w : List ℤ} {first lags : ℕ} → h ≡ at t 0 → first ≡ windows-at s → lags ≡ lags-at s → w ≡ take (lags - first) (drop first t) →
-    parsed (call h (take (2 + 4 * s .cages - 2) (drop 2 t)) w (take (lags + 3 * s .lags - lags) (drop lags t)) (take (lags + 3 * s .lags + 1 + s .words - (lags + 3 * s .lags + 1)) (drop (lags + 3 * s .lags + 1) t))) ≡ parsed (job-in t s)
-job-at t s e f g k =
+pub job-at : (t : List ℤ) (s : Sizes) {h b : ℤ} {w : List ℤ} {first lags : ℕ} → h ≡ at t 0 → b ≡ s .limit → first ≡ windows-at s → lags ≡ lags-at s → w ≡ take (lags - first) (drop first t) →
+    _≡_ {A = Parsed (Job × ℤ)} (parsed (call h (take (2 + 4 * s .cages - 2) (drop 2 t)) w (take (lags + 3 * s .lags - lags) (drop lags t)) (take (lags + 3 * s .lags + 1 + s .words - (lags + 3 * s .lags + 1)) (drop (lags + 3 * s .lags + 1) t)), b)) (parsed (job-in t s, s .limit))
+job-at t s e i f g k =
     let a : 2 + 4 * s .cages - 2 ≡ 4 * s .cages = omega arith in
     let b : lags-at s - windows-at s ≡ 5 * s .events = omega arith in
     let c : lags-at s + 3 * s .lags - lags-at s ≡ 3 * s .lags = omega arith in
     let d : sets-at s + s .words - sets-at s ≡ s .words = omega arith in
-    rw (e, k, f, g, a, b, c, d)
+    rw (e, i, k, f, g, a, b, c, d)
 
 -- ---- words copied
 

@@ -90,7 +90,7 @@ module _ {fresh : List ℤ} {s : Scan} {t : List ℤ} {turns : ℕ} (g : Going f
     pub going-on : not (r .more) ≡ false → 0 < turns → Going fresh (r .scan) u (turns - 1)
     going-on m h = further (k .piece) (sym (k .more) ∙ turned (r .more) true m) (k .scan) h
 
-    last : 2197 ≤ length fresh → (p : Piece) → goes-on p ≡ false → state (r .scan) u ≡ taken (state s t) p → Heard (r .scan) u
+    last : 2198 ≤ length fresh → (p : Piece) → goes-on p ≡ false → state (r .scan) u ≡ taken (state s t) p → Heard (r .scan) u
     unfolding text-of fed
     last l failed m e =
         record {
@@ -110,5 +110,5 @@ module _ {fresh : List ℤ} {s : Scan} {t : List ℤ} {turns : ℕ} (g : Going f
         }
     last l (gave (b ∷ bytes)) m e = absurd (omega (arith, ltb-false 0 (length (b ∷ bytes)) m))
 
-    pub going-end : 2197 ≤ length fresh → not (r .more) ≡ true → Heard (r .scan) u
+    pub going-end : 2198 ≤ length fresh → not (r .more) ≡ true → Heard (r .scan) u
     going-end l m = last l (k .piece) (sym (k .more) ∙ turned (r .more) false m) (k .scan)

@@ -47,27 +47,28 @@ fn copy(from: &[i32], to: &mut [i32])
     }
 }
 
-// A job planned in a slip room of 16,000 words, and its answer put into `out`.
+// A job planned with a round limit in a slip room of 16,000 words, and its answer put into `out`.
 fn planned(
     h: i32,
     cages: &[i32],
     windows: &mut [i32],
     lags: &[i32],
     sets: &[i32],
+    limit: i32,
     out: &mut [u8],
 ) -> usize
     requires { ⌜ (length (now windows) ≤ 320) × (8192 ≤ length (now out)) ⌝ }
-    ensures { λ r. ⌜ Printed (now (out .exit)) r (answered (parsed (call h (now (cages .entry)) (now (windows .entry)) (now (lags .entry)) (now (sets .entry))))) ⌝ }
+    ensures { λ r. ⌜ Printed (now (out .exit)) r (answered (parsed (call h (now (cages .entry)) (now (windows .entry)) (now (lags .entry)) (now (sets .entry)), limit))) ⌝ }
 {
     let mut room = [0i32; 16000];
-    let a = plan(h, cages, windows, lags, sets, &mut room);
+    let a = plan(h, cages, windows, lags, sets, limit, &mut room);
     report(a, windows, out)
 }
 
 // The job of these sizes at the start of the table planned, its windows in `space`.
 fn table_planned(s: Sizes, table: &[i32], space: &mut [i32], out: &mut [u8]) -> usize
     requires { ⌜ Room s (now table) × (320 ≤ length (now space)) × (8192 ≤ length (now out)) ⌝ }
-    ensures { λ r. ⌜ Printed (now (out .exit)) r (answered (parsed (job-in (now (table .entry)) s))) ⌝ }
+    ensures { λ r. ⌜ Printed (now (out .exit)) r (answered (parsed (job-in (now (table .entry)) s, s .limit))) ⌝ }
 {
     let behind = 2 + 4 * s.cages;
     let first = behind + 2;
@@ -84,6 +85,7 @@ fn table_planned(s: Sizes, table: &[i32], space: &mut [i32], out: &mut [u8]) -> 
         windows,
         &table[lags..end],
         &table[sets..last],
+        s.limit,
         out,
     )
 }
@@ -120,7 +122,7 @@ fn read_some(s: Scan, table: &mut [i32]) -> Taken
 
 // Reads to the end of the input. A proved loop has to end, and nothing says that the input does: it counts its turns down from a number that no run uses up.
 fn read_all(table: &mut [i32]) -> Scan
-    requires { ⌜ 2197 ≤ length (now table) ⌝ }
+    requires { ⌜ 2198 ≤ length (now table) ⌝ }
     ensures { λ r. ⌜ Heard r (now (table .exit)) ⌝ }
 {
     let mut scan = scanner::start();

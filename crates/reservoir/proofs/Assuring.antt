@@ -10,7 +10,7 @@ use Rattle.model.specs.Job.{Job}
 use Rattle.model.specs.Rounds.{Verdict, settled, conflict, stopped}
 use Rattle.model.specs.Planner.{refused, done, plan}
 use Rattle.model.specs.Reader.{check}
-use Rattle.model.proofs.Questions.{asked}
+use Rattle.model.proofs.Questions.{asked, limit-asked}
 use Rattle.model.proofs.Refusals.{plan-passed, plan-lengths}
 use Rattle.model.specs.Demand.{echoed, Demand3}
 use Rattle.model.proofs.DemandProof.{demand3, planner-keeps, planner-clash}
@@ -53,15 +53,15 @@ refusing (Refused k) r e = let f : k ≡ r = cc in ap (λ x. refused (x .number)
 not-both : {A : Type 0} (v : Verdict) (a b c n p : ℕ) → done v a b c ≡ refused n p → A
 not-both v a b c n p e = absurd (let z : _≡_ {A = ℕ} 0 1 = cc in omega arith)
 
-module _ (j : Job) (buffer : List ℤ) (a : Answer) {table′ buffer′ : List ℤ}
-    (ea : answer-of a ≡ plan j buffer .reply) (et : table′ ≡ plan j buffer .table) (eb : buffer′ ≡ plan j buffer .buffer) where
+module _ (j : Job) (limit : ℤ) (buffer : List ℤ) (a : Answer) {table′ buffer′ : List ℤ}
+    (ea : answer-of a ≡ plan j limit buffer .reply) (et : table′ ≡ plan j limit buffer .table) (eb : buffer′ ≡ plan j limit buffer .buffer) where
   abbrev theorem : Demand3 j
   theorem = demand3 j
 
-  pub assured-unread : (r : Refusal) → written-of a ≡ Nothing r → (c : Checked) → c .answer ≡ a → judgement-of (c .judgement) ≡ refused (r .number) (r .place) → Assured j buffer table′ buffer′ c
+  pub assured-unread : (r : Refusal) → written-of a ≡ Nothing r → (c : Checked) → c .answer ≡ a → judgement-of (c .judgement) ≡ refused (r .number) (r .place) → Assured j limit buffer table′ buffer′ c
   assured-unread r w c f g =
       let i = refusing a r w in
-      let u = theorem .planner-refuses buffer (r .number) (r .place) (sym ea ∙ i) in
+      let u = theorem .planner-refuses limit buffer (r .number) (r .place) (sym ea ∙ i) in
       record {
         answer = rw f ea;
         windows-left = et;
@@ -74,24 +74,24 @@ module _ (j : Job) (buffer : List ℤ) (a : Answer) {table′ buffer′ : List �
     l : Listing a len
     l = listing a len w
 
-    e : plan j buffer .reply ≡ done (l .verdict) (l .slips) (l .rounds) len
+    e : plan j limit buffer .reply ≡ done (l .verdict) (l .slips) (l .rounds) len
     e = sym ea ∙ l .is
 
     pub few : length (j .window-table) ≤ 320
     few =
-        let k = asked j (length buffer) (plan-passed j buffer (l .verdict) (l .slips) (l .rounds) len e) in
+        let k = asked j (length buffer) (limit-asked j limit (length buffer) (plan-passed j limit buffer (l .verdict) (l .slips) (l .rounds) len e) .0) in
         let m = k .sane .few-events in
         let n = k .whole-events in
         omega arith
 
     pub fits : len ≤ length buffer′
     fits =
-        let k = theorem .complete buffer (l .verdict) (l .slips) (l .rounds) len e .fits in
-        let m = plan-lengths j buffer .1 in
+        let k = theorem .complete limit buffer (l .verdict) (l .slips) (l .rounds) len e .fits in
+        let m = plan-lengths j limit buffer .1 in
         let n = ap length eb in
         omega arith
 
-    pub assured-read : (v′ : Said) → judgement-of v′ ≡ check j (take len buffer′) .reply → Assured j buffer table′ buffer′ (record { answer = a; judgement = v′ })
+    pub assured-read : (v′ : Said) → judgement-of v′ ≡ check j (take len buffer′) .reply → Assured j limit buffer table′ buffer′ (record { answer = a; judgement = v′ })
     assured-read v′ g =
         record {
           answer = ea;
@@ -105,14 +105,14 @@ module _ (j : Job) (buffer : List ℤ) (a : Answer) {table′ buffer′ : List �
         go v s m n k =
             let x : l .verdict ≡ v = cc in
             let y : len ≡ n = cc in
-            let d : plan j buffer .reply ≡ done v s m n = e ∙ k in
-            let r = theorem .complete buffer v s m n d in
-            let i : take len buffer′ ≡ take n (plan j buffer .buffer) = rw (eb, y) in
+            let d : plan j limit buffer .reply ≡ done v s m n = e ∙ k in
+            let r = theorem .complete limit buffer v s m n d in
+            let i : take len buffer′ ≡ take n (plan j limit buffer .buffer) = rw (eb, y) in
             let reply : judgement-of v′ ≡ done (echoed v) 0 0 0 = g ∙ rw i (r .reply) in
             record {
               read = reply;
               left = rw (eb, et) (r .same-table);
-              means = rw eb (theorem .sound (take n (plan j buffer .buffer)) (echoed v) 0 0 0 (r .reply));
-              keeps = rw et (planner-keeps j buffer v s m n d);
-              none = planner-clash j buffer v s m n d;
+              means = rw eb (theorem .sound (take n (plan j limit buffer .buffer)) (echoed v) 0 0 0 (r .reply));
+              keeps = rw et (planner-keeps j limit buffer v s m n d);
+              none = planner-clash j limit buffer v s m n d;
             }

@@ -41,12 +41,12 @@ pub record Taken (j : Job) (table′ buffer′ : List ℤ) (v : Verdict) (len : 
   pub keeps : (p : Schedule) → LegalPlan j p → Inside (events j) (windows table′) (value p)
   pub none : v ≡ conflict → (p : Schedule) → LegalPlan j p → ⊥
 
--- Demands 1 to 3 of one call: its job, the buffer at entry, then table and buffer at exit.
-pub record Assured (j : Job) (buffer table′ buffer′ : List ℤ) (r : Checked) : Type 0 where
+-- Demands 1 to 3 of one call: its job, its round limit, the buffer at entry, then table and buffer at exit.
+pub record Assured (j : Job) (limit : ℤ) (buffer table′ buffer′ : List ℤ) (r : Checked) : Type 0 where
   -- Answer, windows and slips are those of document 01.
-  pub answer : answer-of (r .answer) ≡ plan j buffer .reply
-  pub windows-left : table′ ≡ plan j buffer .table
-  pub slips-left : buffer′ ≡ plan j buffer .buffer
+  pub answer : answer-of (r .answer) ≡ plan j limit buffer .reply
+  pub windows-left : table′ ≡ plan j limit buffer .table
+  pub slips-left : buffer′ ≡ plan j limit buffer .buffer
   -- A refused call changes no lent word.
   pub untouched : (number place : ℕ) → answer-of (r .answer) ≡ refused number place → (table′ ≡ j .window-table) × (buffer′ ≡ buffer) × (judgement-of (r .judgement) ≡ refused number place)
   pub taken : (v : Verdict) (slips rounds len : ℕ) → answer-of (r .answer) ≡ done v slips rounds len → Taken j table′ buffer′ v len r

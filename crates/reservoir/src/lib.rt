@@ -72,16 +72,17 @@ pub fn plan_and_read(
     table: &mut [i32],
     lags: &[i32],
     sets: &[i32],
+    limit: i32,
     buffer: &mut [i32],
 ) -> Checked
     ensures { λ r. ⌜
-        Assured (call h (now (cages .entry)) (now (table .entry)) (now (lags .entry)) (now (sets .entry))) (now (buffer .entry)) (now (table .exit)) (now (buffer .exit)) r
+        Assured (call h (now (cages .entry)) (now (table .entry)) (now (lags .entry)) (now (sets .entry))) limit (now (buffer .entry)) (now (table .exit)) (now (buffer .exit)) r
         ⌝ }
 {
     let n = table.len();
     let mut copy = [0i32; 320];
     keep(table, &mut copy);
-    let answer = plan(h, cages, table, lags, sets, buffer);
+    let answer = plan(h, cages, table, lags, sets, limit, buffer);
     let w = list_of(answer);
     match w {
         Written::Nothing(r) => unread(answer, r),

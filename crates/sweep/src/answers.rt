@@ -68,6 +68,7 @@ fn call(
     at: usize,
     kind: i32,
     h: i32,
+    limit: i32,
     cages: &[i32],
     table: &mut [i32],
     lags: &[i32],
@@ -78,7 +79,7 @@ fn call(
     ensures { λ r. ⌜ r ≤ 65536 ⌝ }
 {
     if kind == 1 {
-        let answer = propagator::plans::plan(h, cages, table, lags, sets, list);
+        let answer = propagator::plans::plan(h, cages, table, lags, sets, limit, list);
         return planned(out, at, answer);
     }
     let judgement = checker::check(h, cages, table, lags, sets, list);
@@ -90,6 +91,7 @@ pub fn answer(
     at: usize,
     kind: i32,
     h: i32,
+    limit: i32,
     cages: &[i32],
     table: &mut [i32],
     lags: &[i32],
@@ -99,7 +101,7 @@ pub fn answer(
     requires { ⌜ at ≤ 65536 ⌝ }
     ensures { λ r. ⌜ r ≤ 65536 ⌝ }
 {
-    let o = call(out, at, kind, h, cages, table, lags, sets, list);
+    let o = call(out, at, kind, h, limit, cages, table, lags, sets, list);
     let o = number(out, o, checksum(table));
     let o = number(out, o, checksum(list));
     put(out, o, b'\n')

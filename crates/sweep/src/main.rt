@@ -1,5 +1,5 @@
 // Answers a stream of records, a line each, just as the second program's `answers` does. `.ci/run` compares the two on a large stream;
-// the stored `stdin` is `second stream 2008 40 160`, in which the reader refuses by every number that there is.
+// the stored `stdin` is `second stream 896 40 160`, in which the planner refuses by 28 and the reader by every other number that there is.
 // A record beyond the limits, an unknown one, or a stream cut short ends the program with a line that says so.
 mod answers;
 mod input;
@@ -53,7 +53,7 @@ fn record(
     out: &mut [u8; 65536],
     s: State,
     kind: i32,
-    head: &[i32; 6],
+    head: &[i32; 7],
     cages: &mut [i32],
     table: &mut [i32],
     lags: &mut [i32],
@@ -68,7 +68,18 @@ fn record(
     let Filled::All(input) = filled else {
         return stop(out, s, b"the stream is cut short\n");
     };
-    let o = answer(out, s.at, kind, head[0], cages, table, lags, sets, list);
+    let o = answer(
+        out,
+        s.at,
+        kind,
+        head[0],
+        head[1],
+        cages,
+        table,
+        lags,
+        sets,
+        list,
+    );
     State {
         input: input,
         at: o,
@@ -82,7 +93,7 @@ fn sized(
     out: &mut [u8; 65536],
     s: State,
     kind: i32,
-    head: &[i32; 6],
+    head: &[i32; 7],
     cages: &mut [i32],
     table: &mut [i32],
     lags: &mut [i32],
@@ -92,23 +103,23 @@ fn sized(
     requires { ⌜ s .at ≤ 65536 ⌝ }
     ensures { λ r. ⌜ r .at ≤ 65536 ⌝ }
 {
-    let c = size(head[1]);
+    let c = size(head[2]);
     if cages.len() < c {
         return stop(out, s, b"a cage table is too long\n");
     }
-    let w = size(head[2]);
+    let w = size(head[3]);
     if table.len() < w {
         return stop(out, s, b"a window table is too long\n");
     }
-    let g = size(head[3]);
+    let g = size(head[4]);
     if lags.len() < g {
         return stop(out, s, b"a lag table is too long\n");
     }
-    let t = size(head[4]);
+    let t = size(head[5]);
     if sets.len() < t {
         return stop(out, s, b"a set table is too long\n");
     }
-    let b = size(head[5]);
+    let b = size(head[6]);
     if list.len() < b {
         return stop(out, s, b"a list is too long\n");
     }
@@ -154,7 +165,7 @@ fn step(
     if !is_call(kind) {
         return stop(out, s, b"an unknown kind of record\n");
     }
-    let mut head = [0i32; 6];
+    let mut head = [0i32; 7];
     let filled = fill(piece, input, &mut head);
     let Filled::All(input) = filled else {
         return stop(out, s, b"the stream is cut short\n");

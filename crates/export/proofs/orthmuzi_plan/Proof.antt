@@ -21,8 +21,9 @@ tell-requires c κs =
     let s = c .before .before .before .before .before .before .before in
     let a = c .before .before .before .before .plan .ensures .0 in
     let same = toZ-ofZ (s .fits .h) in
-    rw (c .before .planned .ensures, a, same)
-    (plan-small (call (s .args .h) (s .args .cages .now) (s .args .table .now) (s .args .lags .now) (s .args .sets .now)) (s .args .buffer .now))
+    let bound = toZ-ofZ (s .fits .limit) in
+    rw (c .before .planned .ensures, a, same, bound)
+    (plan-small (call (s .args .h) (s .args .cages .now) (s .args .table .now) (s .args .lags .now) (s .args .sets .now)) (s .args .limit) (s .args .buffer .now))
 
 same-length : tie.Need-same-length
 same-length c = search needs
@@ -37,16 +38,17 @@ returns : tie.Need-returns
 returns c =
     let s = c .before .before .before .before .before .before .before .before .before in
     let same = toZ-ofZ (s .fits .h) in
+    let bound = toZ-ofZ (s .fits .limit) in
     let p = c .before .before .before .before .before .before .plan .ensures in
     let a = c .before .before .before .planned .ensures
-    ∙ ap numbers-of (rw same at (p .0)) in
-    let small = plan-small (call (s .args .h) (s .args .cages .now) (s .args .table .now) (s .args .lags .now) (s .args .sets .now)) (s .args .buffer .now) in (
+    ∙ ap numbers-of (rw (same, bound) at (p .0)) in
+    let small = plan-small (call (s .args .h) (s .args .cages .now) (s .args .table .now) (s .args .lags .now) (s .args .sets .now)) (s .args .limit) (s .args .buffer .now) in (
       returned _ (rw a at (c .before .tell .ensures .0)) (small .number),
       (
         rw a at (c .before .tell .ensures .1),
         (
-          rw same at (p .1 .0),
-          rw same at (p .1 .1),
+          rw (same, bound) at (p .1 .0),
+          rw (same, bound) at (p .1 .1),
         ),
       ),
     )

@@ -28,7 +28,7 @@ returns c =
     let p = c .before .before .before .before .before .before .before .plan .ensures in
     let s = c .before .before .before .before .before .before .before .before .before .before .before in
     let f = s .fits in
-    planned-text (s .args .cages .now) (s .args .windows .now) (s .args .lags .now) (s .args .sets .now) (toZ-ofZ (f .h)) (p .0) (p .1 .0) (c .before .before .report .ensures)
+    planned-text (s .args .cages .now) (s .args .windows .now) (s .args .lags .now) (s .args .sets .now) (toZ-ofZ (f .h)) (toZ-ofZ (f .limit)) (p .0) (p .1 .0) (c .before .before .report .ensures)
 
 pub planned-spec : {M : Type 1} → statement M
 planned-spec =

@@ -98,7 +98,7 @@ part-planned-end-3 c = search needs
 
 planned-requires : tie.Need-planned-requires
 planned-requires c κs =
-    let k = c .before .before .before .before .before .before in
+    let k = c .before .before .before .before .before .before .before in
     let a = k .before .before .before .before .before .before .before .before .before .args in
     (omega (arith, k .copy .kept .1 .0, length-take (5 * a .s .events) (a .space .now)), search needs)
 
@@ -111,10 +111,10 @@ same-length-2 c = search needs
 returns : tie.Need-returns
 returns c =
     let k = c .before .before .before in
-    let d = k .before .before .before .before .before .before .before in
+    let d = k .before .before .before .before .before .before .before .before in
     let t = d .before .before .before .before .before .before .before .before .before .args in
     answered-as
-    (job-at (t .table .now) (t .s) (back32 (at (t .table .now) 0) (search)) (omega arith) (omega arith) (d .copy .ensures))
+    (job-at (t .table .now) (t .s) (back32 (at (t .table .now) 0) (search)) (back32 (t .s .limit) (search)) (omega arith) (omega arith) (d .copy .ensures))
     (k .planned .ensures)
 
 pub table-planned-spec : {M : Type 1} → statement M

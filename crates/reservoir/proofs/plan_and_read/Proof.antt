@@ -36,7 +36,8 @@ array-borrow-prefix-copy c =
     let s = l .before .before .before .before .before .before .before .before .before in
     let a = s .args in
     let same = toZ-ofZ (s .fits .h) in
-    let k = few (call (a .h) (a .cages .now) (a .table .now) (a .lags .now) (a .sets .now)) (a .buffer .now) (p .result) (rw same at (p .ensures .0)) (rw same at (p .ensures .1 .0)) (rw same at (p .ensures .1 .1)) (c .before .w2 .given .0 .0) (sym (l .list-of .ensures) ∙ c .before .w2 .given .1) in
+    let bound = toZ-ofZ (s .fits .limit) in
+    let k = few (call (a .h) (a .cages .now) (a .table .now) (a .lags .now) (a .sets .now)) (a .limit) (a .buffer .now) (p .result) (rw (same, bound) at (p .ensures .0)) (rw (same, bound) at (p .ensures .1 .0)) (rw (same, bound) at (p .ensures .1 .1)) (c .before .w2 .given .0 .0) (sym (l .list-of .ensures) ∙ c .before .w2 .given .1) in
     omega (arith, l .before .before .before .before .before .before .keep .ensures .whole)
 
 slice-aggregate-check : tie.Need-slice-aggregate-check
@@ -46,7 +47,8 @@ slice-aggregate-check c =
     let s = l .before .before .before .before .before .before .before .before .before in
     let a = s .args in
     let same = toZ-ofZ (s .fits .h) in
-    let k = few (call (a .h) (a .cages .now) (a .table .now) (a .lags .now) (a .sets .now)) (a .buffer .now) (p .result) (rw same at (p .ensures .0)) (rw same at (p .ensures .1 .0)) (rw same at (p .ensures .1 .1)) (c .before .before .w2 .given .0 .0) (sym (l .list-of .ensures) ∙ c .before .before .w2 .given .1) in
+    let bound = toZ-ofZ (s .fits .limit) in
+    let k = few (call (a .h) (a .cages .now) (a .table .now) (a .lags .now) (a .sets .now)) (a .limit) (a .buffer .now) (p .result) (rw (same, bound) at (p .ensures .0)) (rw (same, bound) at (p .ensures .1 .0)) (rw (same, bound) at (p .ensures .1 .1)) (c .before .before .w2 .given .0 .0) (sym (l .list-of .ensures) ∙ c .before .before .w2 .given .1) in
     sym (length-take-le _ _ (omega (arith, l .before .before .before .before .before .before .keep .ensures .whole)))
 
 slice-reshare-prefix-check : tie.Need-slice-reshare-prefix-check
@@ -56,7 +58,8 @@ slice-reshare-prefix-check c =
     let s = l .before .before .before .before .before .before .before .before .before in
     let a = s .args in
     let same = toZ-ofZ (s .fits .h) in
-    fits (call (a .h) (a .cages .now) (a .table .now) (a .lags .now) (a .sets .now)) (a .buffer .now) (p .result) (rw same at (p .ensures .0)) (rw same at (p .ensures .1 .0)) (rw same at (p .ensures .1 .1)) (c .before .before .w2 .given .0 .0) (sym (l .list-of .ensures) ∙ c .before .before .w2 .given .1)
+    let bound = toZ-ofZ (s .fits .limit) in
+    fits (call (a .h) (a .cages .now) (a .table .now) (a .lags .now) (a .sets .now)) (a .limit) (a .buffer .now) (p .result) (rw (same, bound) at (p .ensures .0)) (rw (same, bound) at (p .ensures .1 .0)) (rw (same, bound) at (p .ensures .1 .1)) (c .before .before .w2 .given .0 .0) (sym (l .list-of .ensures) ∙ c .before .before .w2 .given .1)
 
 slice-aggregate-check-2 : tie.Need-slice-aggregate-check-2
 slice-aggregate-check-2 c =
@@ -65,7 +68,8 @@ slice-aggregate-check-2 c =
     let s = l .before .before .before .before .before .before .before .before .before in
     let a = s .args in
     let same = toZ-ofZ (s .fits .h) in
-    sym (length-take-le _ _ (fits (call (a .h) (a .cages .now) (a .table .now) (a .lags .now) (a .sets .now)) (a .buffer .now) (p .result) (rw same at (p .ensures .0)) (rw same at (p .ensures .1 .0)) (rw same at (p .ensures .1 .1)) (c .before .before .before .w2 .given .0 .0) (sym (l .list-of .ensures) ∙ c .before .before .before .w2 .given .1)))
+    let bound = toZ-ofZ (s .fits .limit) in
+    sym (length-take-le _ _ (fits (call (a .h) (a .cages .now) (a .table .now) (a .lags .now) (a .sets .now)) (a .limit) (a .buffer .now) (p .result) (rw (same, bound) at (p .ensures .0)) (rw (same, bound) at (p .ensures .1 .0)) (rw (same, bound) at (p .ensures .1 .1)) (c .before .before .before .w2 .given .0 .0) (sym (l .list-of .ensures) ∙ c .before .before .before .w2 .given .1)))
 
 check-requires : tie.Need-check-requires
 check-requires c κs = search needs
@@ -83,7 +87,8 @@ returns c =
     let s = l .before .before .before .before .before .before .before .before .before in
     let a = s .args in
     let same = toZ-ofZ (s .fits .h) in
-    assured-unread (call (a .h) (a .cages .now) (a .table .now) (a .lags .now) (a .sets .now)) (a .buffer .now) (p .result) (rw same at (p .ensures .0)) (rw same at (p .ensures .1 .0)) (rw same at (p .ensures .1 .1)) (c .before .before .w .given .0 .0) (sym (l .list-of .ensures) ∙ c .before .before .w .given .1) (c .unread .result) (c .unread .ensures .0) (c .unread .ensures .1)
+    let bound = toZ-ofZ (s .fits .limit) in
+    assured-unread (call (a .h) (a .cages .now) (a .table .now) (a .lags .now) (a .sets .now)) (a .limit) (a .buffer .now) (p .result) (rw (same, bound) at (p .ensures .0)) (rw (same, bound) at (p .ensures .1 .0)) (rw (same, bound) at (p .ensures .1 .1)) (c .before .before .w .given .0 .0) (sym (l .list-of .ensures) ∙ c .before .before .w .given .1) (c .unread .result) (c .unread .ensures .0) (c .unread .ensures .1)
 
 same-length-3 : tie.Need-same-length-3
 same-length-3 c = search needs
@@ -99,12 +104,13 @@ returns-2 c =
     let s = l .before .before .before .before .before .before .before .before .before in
     let a = s .args in
     let same = toZ-ofZ (s .fits .h) in
+    let bound = toZ-ofZ (s .fits .limit) in
     let j = call (a .h) (a .cages .now) (a .table .now) (a .lags .now) (a .sets .now) in
     let len = c .before .before .before .before .before .w2 .given .0 .0 in
     let listed = sym (l .list-of .ensures) ∙ c .before .before .before .before .before .w2 .given .1 in
-    let room = few j (a .buffer .now) (p .result) (rw same at (p .ensures .0)) (rw same at (p .ensures .1 .0)) (rw same at (p .ensures .1 .1)) len listed in
+    let room = few j (a .limit) (a .buffer .now) (p .result) (rw (same, bound) at (p .ensures .0)) (rw (same, bound) at (p .ensures .1 .0)) (rw (same, bound) at (p .ensures .1 .1)) len listed in
     let copied = kept .ensures .first room in
-    assured-read j (a .buffer .now) (p .result) (rw same at (p .ensures .0)) (rw same at (p .ensures .1 .0)) (rw same at (p .ensures .1 .1)) len listed (c .before .check .result) (rw (same, copied) at (c .before .check .ensures .0))
+    assured-read j (a .limit) (a .buffer .now) (p .result) (rw (same, bound) at (p .ensures .0)) (rw (same, bound) at (p .ensures .1 .0)) (rw (same, bound) at (p .ensures .1 .1)) len listed (c .before .check .result) (rw (same, copied) at (c .before .check .ensures .0))
 
 pub plan-and-read-spec : {M : Type 1} → statement M
 plan-and-read-spec =
