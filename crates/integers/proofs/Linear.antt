@@ -138,10 +138,10 @@ pub rng64 : (z : ℤ) → mag z < 2 ^ 63 → Rng w64 z
 rng64 z h = rng (record { sfits = h })
 
 pub back32 : (z : ℤ) → mag z < 2 ^ 31 → to_z w32 (of_z w32 z) ≡ z
-back32 z h = to_z-of_z (record { sfits = h })
+back32 z h = to_z-of_z {w = w32} (record { sfits = h })
 
 pub back64 : (z : ℤ) → mag z < 2 ^ 63 → to_z w64 (of_z w64 z) ≡ z
-back64 z h = to_z-of_z (record { sfits = h })
+back64 z h = to_z-of_z {w = w64} (record { sfits = h })
 
 pub sfits→ : (w : Width) (z : ℤ) → SFits w z → max (suc (up z + up z)) (dn z + dn z) ≤ 2 ^ hbits w + (up z + dn z)
 sfits→ w z h = omega (arith, rng h)

@@ -102,15 +102,12 @@ module _ (E : View) (s : ℕ → Bool) (same : (y : ℕ) → y < E.events → E.
     early_agree y l = ap₂ (λ p h. not (eqb y E.subject) && surely_consumed p h) (place_agree u v y l) (a y l h_max)
 
     pub cites_agree : (top : Bool) (dropped : ℕ → Bool) (z : ℕ) → z < E.events → (k : End) → cites E W u v top dropped z k ≡ cites F X u v top dropped z k
-    cites_agree top dropped z l k =
-        let all-early = any_agree E.events (early E W u v) (early F X u v) early_agree in
-        let all-late = any_agree E.events (late E W u v) (late F X u v) late_agree in
-        elim k [
-          | t_min ↦ simp (all-early, late_agree z l)
-          | t_max ↦ simp (all-late, early_agree z l)
-          | h_min ↦ refl
-          | h_max ↦ simp (place_agree u v z l, a z l h_max)
-        ]
+    cites_agree top dropped z l t_min =
+        let all_early = any_agree E.events (early E W u v) (early F X u v) early_agree in simp (all_early, late_agree z l)
+    cites_agree top dropped z l t_max =
+        let all_late = any_agree E.events (late E W u v) (late F X u v) late_agree in simp (all_late, early_agree z l)
+    cites_agree top dropped z l h_min = refl
+    cites_agree top dropped z l h_max = simp (place_agree u v z l, a z l h_max)
 
     pub says_agree : (z : ℕ) → z < E.events → (k : End) → says E W u v z k ≡ says F X u v z k
     says_agree z l t_min = ap (λ b. cond (eqb z E.subject) u (first_late b v)) (same z l)

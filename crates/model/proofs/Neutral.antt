@@ -124,15 +124,12 @@ module _ (E : View) (s : ℕ → Bool) (W : Windows) (same : (y : ℕ) → y < E
         ap (λ b. not (eqb y E.subject) && b) (alike surely_consumed false never_early (place E W u v y) (place F W u v y) (W y h_max) (place_alike u v y l))
 
     pub cites_alike : (top : Bool) (dropped : ℕ → Bool) (z : ℕ) → z < E.events → (k : End) → cites E W u v top dropped z k ≡ cites F W u v top dropped z k
-    cites_alike top dropped z l k =
-        let all-early = any_agree E.events (early E W u v) (early F W u v) early_alike in
-        let all-late = any_agree E.events (late E W u v) (late F W u v) late_alike in
-        elim k [
-          | t_min ↦ simp (all-early, late_alike z l)
-          | t_max ↦ simp (all-late, early_alike z l)
-          | h_min ↦ refl
-          | h_max ↦ ap (λ b. not (dropped z) && b) (alike targeted false no_target (place E W u v z) (place F W u v z) (W z h_max) (place_alike u v z l))
-        ]
+    cites_alike top dropped z l t_min =
+        let all_early = any_agree E.events (early E W u v) (early F W u v) early_alike in simp (all_early, late_alike z l)
+    cites_alike top dropped z l t_max =
+        let all_late = any_agree E.events (late E W u v) (late F W u v) late_alike in simp (all_late, early_alike z l)
+    cites_alike top dropped z l h_min = refl
+    cites_alike top dropped z l h_max = ap (λ b. not (dropped z) && b) (alike targeted false no_target (place E W u v z) (place F W u v z) (W z h_max) (place_alike u v z l))
 
     -- What is quoted says the same: a neutral event's times are not quoted.
     pub says_alike : (top : Bool) (dropped : ℕ → Bool) (z : ℕ) → z < E.events → (k : End) → T (cites E W u v top dropped z k) → says E W u v z k ≡ says F W u v z k

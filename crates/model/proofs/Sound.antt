@@ -249,7 +249,7 @@ finding_sound lag_lower j W p g y sane signs h l m t =
     rw (eqb→eq y (lag_b j g) t) d
 finding_sound (reservoir m b f) j W p e y sane signs h l k t =
     holds_look (here j e) m (family_end f) (value p) y (family_rule f (view j m b e) (seen j m e W) y) (family_quiet j m e (view j m b e) W y f)
-    (family_sound (view j m b e) (seen j m e W) (look_point (here j e) m p) (look_inside (here j e) m h.within) (legal_low m b e (sane.cage_real e l) (inside_trans signs h.within) h) l (look_signed (here j e) m (signed_within signs)) f y k (fits_aims m b f j e y t))
+    (family_sound (view j m b e) (seen j m e W) (look_point (here j e) m p) (look_inside (here j e) m h.within) (legal_low m b e (sane.cage_real e l) (inside_trans signs h.within) h) l (look_signed (here j e) m (signed_within j signs)) f y k (fits_aims m b f j e y t))
 finding_sound (total m) j W p g y sane signs h l k t =
     let own = in_set j g in
     holds_look own m h_min (value p) y (total_rule (total_limit m j g) (events j) (look own m W) y) (λ a n. absurd (T_not (own y) n t))

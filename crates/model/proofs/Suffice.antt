@@ -324,7 +324,7 @@ slip_passes j W r e y sane std a x q i =
     let wide = widest j in
     let X = narrowed wide fs in
     let holds : T (all_true W fs) = list_true n c v W (rule_true (rule r) j W e y x) in
-    let o : Opened n W X = record { wider = inside_narrowed std.within fs holds; times = std.times; heights = std.heights; signs = signed_within (narrowed_in n wide fs) } in (
+    let o : Opened n W X = record { wider = inside_narrowed std.within fs holds; times = std.times; heights = std.heights; signs = signed_within j (narrowed_in n wide fs) } in (
       and_in (is_event (subjects (rule r) j) (pos e) && is_event n (pos y) && premises_fit n fs && target_fits (rule r) j e y) (kind_fits (rule r) (pos (concluded_kind (rule r) x)) (concluded_value x))
           (and_in (is_event (subjects (rule r) j) (pos e) && is_event n (pos y) && premises_fit n fs) (target_fits (rule r) j e y)
           (and_in (is_event (subjects (rule r) j) (pos e) && is_event n (pos y)) (premises_fit n fs)
