@@ -1,4 +1,6 @@
 // The set table: the sets one after another, each least total, most total, member count, members. Where each set begins; any words are walked.
+#![tactic(auto)]
+
 ghost use Rattle.std.specs.Prelude.{◌≡◌, cond, ◌+◌, ◌<◌, ◌≤◌};
 ghost use Rattle.model.specs.Job.{to_count, set_begin, begun};
 ghost use Rattle.sets.specs.Sets.{word_at, count_at};
