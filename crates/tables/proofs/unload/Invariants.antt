@@ -1,0 +1,13 @@
+-- `tables::unload` writes the board back. The loop's invariant: the table's first y events are the board's, the rest as at entry. Assumes nothing.
+use mathlib.Core.Path.{◌≡◌}
+use mathlib.Core.List.{◌++◌}
+use Prim.Native.Nat.{◌≤◌, ◌*◌, ◌-◌}
+use lib.ListN.{length, drop}
+use Rattle.tables.specs.Board.{table_of}
+use Rattle.tables.proofs.unload.Given as goal
+
+abbrev pub invariant-loop-y : goal.invariant-loop-y
+invariant-loop-y l = (l.y ≤ l.n) × (length l.table ≡ length l.initial.table) × (l.table ≡ table_of l.y l.initial.table l.b ++ drop (5 * l.y) l.initial.table)
+
+abbrev pub decreases-loop-y : goal.decreases-loop-y
+decreases-loop-y l = l.n - l.y
