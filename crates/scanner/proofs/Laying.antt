@@ -1,25 +1,24 @@
 -- How numbers are laid out: the layout that the code finds is the job that the numbers say, part by part.
 -- Assumes nothing.
 use mathlib.Core.Path.{◌≡◌, refl, sym, ap, ap₂, ◌∙◌}
-use mathlib.Core.Bool.{Bool, true, false, cond, and-false}
+use mathlib.Core.Bool.{Bool, true, false, and-false}
 use mathlib.Core.List.{List, [], ◌∷◌, ◌++◌}
 use Prim.Native.Nat.{ℕ, zero, suc, ◌+◌, ◌*◌, ◌-◌, ◌≤◌, ◌<◌}
 use native.Mathlib.Decide.{dec_le}
-use native.Mathlib.Nat.{add-zero}
 use native.Mathlib.Omega.{arith}
 use native.Mathlib.Numerals.{add-one}
 use borrow.Author.Tests.{le-leb, lt-leb, lt-ltb, le-ltb, eqb-true, eqb-false, eq-eqb, ne_eqb}
 use lib.Dec.{T, leb, leb→le, eqb}
 use lib.IntN.{ℤ, pos, negsuc, nat_abs}
 use lib.ListN.{length, take, drop, length-drop, length-take, drop_of_length-le}
-use lib.Seq.{get_or-take, get_or-drop, take-take, drop-drop, drop-cons, take-add}
+use lib.Seq.{get_or-take, take-take, drop-drop, drop-cons, take-add}
 use lib.Signed.{le_z, lt_z}
 use Rattle.integers.proofs.Linear.{ints}
 use Rattle.integers.proofs.Tests.{and_out, true_is}
 use Rattle.model.specs.Questions.{in_range}
 use Rattle.model.specs.Job.{Job}
 use Rattle.model.specs.Text.{Parsed, parsed, malformed, on, count_in, next_words, next_set, next_sets, limit_at_end, job_of}
-use Rattle.scanner.specs.Layout.{at, count_of, count_at, walked, with_count, fitting, up_to, behind_sets, behind_lags, behind_n, behind_cages, layout_of, windows_at, lags_at, sets_at, numbers_of, job_in, told, Roomy, Handed}
+use Rattle.scanner.specs.Layout.{at, count_of, count_at, walked, with_count, fitting, up_to, behind_sets, behind_lags, behind_n, behind_cages, layout_of, windows_at, lags_at, sets_at, numbers_of, told, Roomy, Handed}
 use Rattle.scanner.specs.Scanner.{state, ended, read, finished}
 use Rattle.scanner.specs.declared.scan.Scan.{Scan}
 use Rattle.scanner.specs.declared.scan.Scan.TheVariants.{Between}
