@@ -19,14 +19,14 @@ use slips::words::{index, not_negative, word_is};
 use tables::{Job, Time, cage_at, load, unload};
 
 // One slip read and asked: the place after it and whether it is a conflict, or the number of a refusal.
-#[derive(Drop)]
+#[derive(Clone, Copy)]
 pub enum Step {
     On(usize, bool),
     No(usize),
 }
 
 // Where the last slip ends and begins, and whether it is a conflict.
-#[derive(Drop)]
+#[derive(Clone, Copy)]
 pub struct Tail {
     pub after: usize,
     pub last: usize,
@@ -34,14 +34,14 @@ pub struct Tail {
 }
 
 // All slips read, or refused.
-#[derive(Drop)]
+#[derive(Clone, Copy)]
 pub enum SlipsRead {
     All(Tail),
     Refused(Refusal),
 }
 
 // The reader's answer: open or conflict, or refused.
-#[derive(Drop)]
+#[derive(Clone, Copy)]
 pub enum Judgement {
     Open,
     Conflict,

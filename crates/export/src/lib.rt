@@ -15,7 +15,7 @@ use propagator::plans::plan;
 use propagator::{Answer, Counts};
 
 // An answer in plain numbers: the refusal's number or 0, and the five words.
-#[derive(Drop)]
+#[derive(Clone, Copy)]
 pub struct Numbers {
     pub number: usize,
     pub place: usize,

@@ -5,7 +5,7 @@ use levels::View;
 use tables::Time;
 
 // What decides the facts of a lag's slip: is t ≥ of its event a quoted, with t_min(a) for its value; is t ≤ of b, with t_max(b)?
-#[derive(Drop)]
+#[derive(Clone, Copy)]
 pub struct LagCiting {
     pub a: usize,
     pub b: usize,
@@ -16,7 +16,7 @@ pub struct LagCiting {
 }
 
 // What decides the facts of a reservoir rule's slip, in its view: e's time window is from..to; deliveries left out come no earlier than `after`, sure pulls no later than `until`.
-#[derive(Drop)]
+#[derive(Clone, Copy)]
 pub struct LevelCiting {
     pub view: View,
     pub from: Time,
@@ -32,7 +32,7 @@ pub struct LevelCiting {
 }
 
 // What decides the facts of a set's slip, of rule 17 or of its mirror 18: its target, and is it a conflict's? They are read off a board on which only the members have amounts.
-#[derive(Drop)]
+#[derive(Clone, Copy)]
 pub struct TotalCiting {
     pub mirror: bool,
     pub target: usize,
@@ -40,7 +40,7 @@ pub struct TotalCiting {
 }
 
 // What decides the facts of one slip, made once.
-#[derive(Drop)]
+#[derive(Clone, Copy)]
 pub enum Citing {
     Lag(LagCiting),
     Level(LevelCiting),
@@ -48,14 +48,14 @@ pub enum Citing {
 }
 
 // Of events other than e: is one a pull that e's level surely counts, is one a delivery that it leaves out?
-#[derive(Drop)]
+#[derive(Clone, Copy)]
 pub struct Others {
     pub early: bool,
     pub late: bool,
 }
 
 // Which facts of one event a slip quotes: t ≥, t ≤, and h ≤ (in a mirror's slip h ≥).
-#[derive(Drop)]
+#[derive(Clone, Copy)]
 pub struct Quoted {
     pub lower: bool,
     pub upper: bool,

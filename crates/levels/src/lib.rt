@@ -6,14 +6,14 @@ pub mod levels; // levels.rt: what an event adds, most before and by, the sure p
 use tables::Height;
 
 // Where an event stands to e: surely before (by); possibly, which counts where not surely.
-#[derive(Drop)]
+#[derive(Clone, Copy)]
 pub struct Place {
     pub sure: bool,
     pub possible: bool,
 }
 
 // How a rule counts at an event, its subject: the number of events, the job or its mirror, before (strict) or by, whether deliveries count later (cover 0), and the limit and the opening stock of that side.
-#[derive(Drop)]
+#[derive(Clone, Copy)]
 pub struct View {
     pub subject: usize,
     pub events: usize,

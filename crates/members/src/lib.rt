@@ -22,7 +22,7 @@ use tables::{Height, h_max, h_min, set_h_max, set_h_min};
 use totals::{member, slack, total_effect};
 
 // Where a set stands in the table: its number, its first word, how many members it has.
-#[derive(Drop)]
+#[derive(Clone, Copy)]
 pub struct SetPlace {
     pub set: usize,
     pub at: usize,

@@ -6,7 +6,7 @@ use questions::Refusal;
 use rounds::Progress;
 
 // How a run ends.
-#[derive(Drop)]
+#[derive(Clone, Copy)]
 pub enum Verdict {
     Settled,
     Conflict,
@@ -14,7 +14,7 @@ pub enum Verdict {
 }
 
 // The end of a run: its verdict, the rounds begun, the list.
-#[derive(Drop)]
+#[derive(Clone, Copy)]
 pub struct Ended {
     pub verdict: Verdict,
     pub rounds: usize,
@@ -22,7 +22,7 @@ pub struct Ended {
 }
 
 // The number of slips, the rounds begun, the list's length in words, its trailer included.
-#[derive(Drop)]
+#[derive(Clone, Copy)]
 pub struct Counts {
     pub slips: usize,
     pub rounds: usize,
@@ -30,7 +30,7 @@ pub struct Counts {
 }
 
 // The planner's answer.
-#[derive(Drop)]
+#[derive(Clone, Copy)]
 pub enum Answer {
     Settled(Counts),
     Conflict(Counts),

@@ -11,14 +11,14 @@ pub const MOST_ROOM: usize = 1000000;
 pub const MOST_ROUNDS: i32 = 1000000;
 
 // A refused call: the question's number, and the cage, event, lag, set or slip concerned (else 0).
-#[derive(Drop)]
+#[derive(Clone, Copy)]
 pub struct Refusal {
     pub number: usize,
     pub place: usize,
 }
 
 // What a call's questions come to.
-#[derive(Drop)]
+#[derive(Clone, Copy)]
 pub enum Check {
     Pass,
     Refuse(Refusal),

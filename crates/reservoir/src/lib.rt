@@ -14,14 +14,14 @@ use propagator::plans::plan;
 use questions::Refusal;
 
 // The planner's answer, and the reader's judgement on the list that it wrote.
-#[derive(Drop)]
+#[derive(Clone, Copy)]
 pub struct Checked {
     pub answer: Answer,
     pub judgement: Judgement,
 }
 
 // The length of the list that was written, or why none was.
-#[derive(Drop)]
+#[derive(Clone, Copy)]
 pub enum Written {
     Listed(usize),
     Nothing(Refusal),

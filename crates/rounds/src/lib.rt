@@ -3,7 +3,7 @@ pub mod attempts; // attempts.rt: one attempt
 pub mod sweeps; // sweeps.rt: the attempts of a round in order
 
 // How a call stands: it goes on, or has ended.
-#[derive(Drop)]
+#[derive(Clone, Copy)]
 pub enum Status {
     Running,
     Conflict,
@@ -11,7 +11,7 @@ pub enum Status {
 }
 
 // The list so far: words used, number of slips, where the last slip begins; how the call stands.
-#[derive(Drop)]
+#[derive(Clone, Copy)]
 pub struct Progress {
     pub used: usize,
     pub slips: usize,

@@ -8,21 +8,21 @@ pub mod effects; // effects.rt: what that does to the target's window
 use tables::{Height, Time, Word};
 
 // The earliest time found, if any.
-#[derive(Drop)]
+#[derive(Clone, Copy)]
 pub struct Soonest {
     pub found: bool,
     pub at: Time,
 }
 
 // The search for that time: the earliest found, and the latest at which the limit was found not to be reached.
-#[derive(Drop)]
+#[derive(Clone, Copy)]
 pub struct Search {
     pub best: Soonest,
     pub short: Soonest,
 }
 
 // Rules 3 to 14: the job or its mirror, before (strict) or by, and the family: 0 the level's conflict, 1 e's time, 2 an amount.
-#[derive(Drop)]
+#[derive(Clone, Copy)]
 pub struct Variant {
     pub mirror: bool,
     pub strict: bool,
@@ -30,7 +30,7 @@ pub struct Variant {
 }
 
 // What a rule gives: nothing, a conflict of the levels, a bound on a time or on an amount.
-#[derive(Drop)]
+#[derive(Clone, Copy)]
 pub enum Finding {
     Nothing,
     Clash,
@@ -39,7 +39,7 @@ pub enum Finding {
 }
 
 // What a finding does to its target's window: nothing, a new end, a conflict.
-#[derive(Drop)]
+#[derive(Clone, Copy)]
 pub enum Effect {
     Idle,
     Narrows(Word),

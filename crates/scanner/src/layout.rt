@@ -13,7 +13,7 @@ pub const MOST_NUMBERS: usize = 2198;
 pub const DEFAULT_LIMIT: i32 = 40;
 
 // How many cages, events and lags there are, and how many words of sets; the round limit.
-#[derive(Drop)]
+#[derive(Clone, Copy)]
 pub struct Sizes {
     pub cages: usize,
     pub events: usize,
@@ -23,14 +23,14 @@ pub struct Sizes {
 }
 
 // How numbers are laid out: H, the number of cages and their words, n m, then n events, m lags, the number of sets and their words, and a round limit or none; or otherwise, which is 20.
-#[derive(Drop)]
+#[derive(Clone, Copy)]
 pub enum Layout {
     Fits(Sizes),
     Malformed,
 }
 
 // A number as a count, or a place.
-#[derive(Drop)]
+#[derive(Clone, Copy)]
 enum Count {
     Is(usize),
     Outside,

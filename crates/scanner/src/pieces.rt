@@ -6,7 +6,7 @@ use crate::layout::least;
 use crate::scan::{Scan, feed};
 
 // Where the text stands after a piece, and whether more may come.
-#[derive(Drop)]
+#[derive(Clone, Copy)]
 pub struct Taken {
     pub scan: Scan,
     pub more: bool,

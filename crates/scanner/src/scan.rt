@@ -4,7 +4,7 @@ ghost use Rattle.model.specs.Text.{blank, digit as digit-byte};
 ghost use Rattle.scanner.specs.Scanner.{state, sized, kept, closed, ended, negated, grown, valued as valued-digits, step as stepped, fed};
 
 // Where a text stands after some of its bytes.
-#[derive(Drop)]
+#[derive(Clone, Copy)]
 pub enum Scan {
     // So many numbers, and no token begun.
     Between(usize),
@@ -17,7 +17,7 @@ pub enum Scan {
 }
 
 // A value with a sign: a word of 32 bits, or outside.
-#[derive(Drop)]
+#[derive(Clone, Copy)]
 enum Number {
     Word(i32),
     Outside,

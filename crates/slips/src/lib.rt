@@ -16,7 +16,7 @@ pub const MOST_FACTS: i32 = 256;
 pub const LONGEST_WITH_TRAILER: usize = 778;
 
 // A slip: its header, the word place of its first fact, and the number of its facts.
-#[derive(Drop)]
+#[derive(Clone, Copy)]
 pub struct Slip {
     pub rule: usize,
     pub subject: Word,
@@ -28,14 +28,14 @@ pub struct Slip {
 }
 
 // A slip read comes apart as a slip and the place after it, or as a refusal.
-#[derive(Drop)]
+#[derive(Clone, Copy)]
 pub enum SlipRead {
     Whole(Slip, usize),
     Cut,
 }
 
 // A fact, as its three words.
-#[derive(Drop)]
+#[derive(Clone, Copy)]
 pub struct Fact {
     pub event: Word,
     pub kind: Word,
@@ -43,7 +43,7 @@ pub struct Fact {
 }
 
 // The trailer, as its three words.
-#[derive(Drop)]
+#[derive(Clone, Copy)]
 pub struct Trailer {
     pub slips: Word,
     pub last: Word,

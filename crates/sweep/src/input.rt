@@ -2,21 +2,21 @@
 use super::words::word;
 
 // Where reading stands in the piece at hand, and where that piece ends.
-#[derive(Drop)]
+#[derive(Clone, Copy)]
 pub struct Input {
     pub at: usize,
     pub end: usize,
 }
 
 // A word and what comes after it; or the input ends before four bytes.
-#[derive(Drop)]
+#[derive(Clone, Copy)]
 pub enum Next {
     Word(i32, Input),
     Cut,
 }
 
 // A table filled, and what comes after it; or the input ends before.
-#[derive(Drop)]
+#[derive(Clone, Copy)]
 pub enum Filled {
     All(Input),
     Cut,

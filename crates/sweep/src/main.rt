@@ -13,7 +13,7 @@ use input::{Filled, Input, Next, fill, fill_five, take_word};
 use lines::{flush, text};
 
 // Where the program stands in its input and in its output, and whether there is more to answer.
-#[derive(Drop)]
+#[derive(Clone, Copy)]
 struct State {
     input: Input,
     at: usize,
