@@ -1,4 +1,6 @@
 // The program's output: a reply as text, put into a lent buffer of bytes.
+#![tactic(auto)]
+
 ghost use Rattle.std.specs.Prelude.{◌≡◌, [], ◌∷◌, ◌++◌, ◌+◌, ◌*◌, ◌/◌, ◌≤◌, ◌<◌, nat_abs, length, take, drop};
 ghost use Rattle.model.specs.Text.{bytes};
 ghost use Rattle.model.specs.Print.{numeral, integer, line_of, headline, event_lines};
