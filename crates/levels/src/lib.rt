@@ -1,4 +1,6 @@
 // What a rule sees at an event: where the others stand to it, and the levels before and by it.
+#![tactic(auto)]
+
 pub mod places; // places.rt: before and by, delivery and pull, the mirror: the leaves
 pub mod views; // views.rt: a view made, and what is seen in it
 pub mod levels; // levels.rt: what an event adds, most before and by, the sure part
