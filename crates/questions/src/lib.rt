@@ -1,4 +1,6 @@
 // Questions 1 to 11, 22, 29, 30 and 31 to 33, which planner and reader put to a call before anything else.
+#![tactic(auto)]
+
 pub mod asked; // asked.rt: the questions in order
 pub mod asked_sets; // asked_sets.rt: 31 to 33, to the set table
 
