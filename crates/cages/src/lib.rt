@@ -1,4 +1,6 @@
 // A job of several cages, one of them at a time: the board as the events of one cage see it, and what moved there put back.
+#![tactic(auto)]
+
 ghost use Rattle.std.specs.Prelude.{◌≡◌, cond, ◌<◌, ◌≤◌, pos};
 ghost use Rattle.tables.specs.Board.{Whole};
 ghost use Rattle.cages.specs.Masking.{together, Homed, Masked, Joined, masked_event};
