@@ -1,4 +1,6 @@
 // What each of the fourteen rules gives on a board of windows, and what that does to the target's window.
+#![tactic(auto)]
+
 pub mod bounds; // bounds.rt: what the families of reservoir rules give in a view
 pub mod lags; // lags.rt: the lag table's words, rules 1 and 2
 pub mod numbers; // numbers.rt: the rules by number
