@@ -1,4 +1,6 @@
 // What rules 17 and 18 give on a board: a set's members added up once for a side, then each member by the set's slack.
+#![tactic(auto)]
+
 ghost use Rattle.std.specs.Prelude.{◌≡◌, ℕ, ◌+◌, ◌<◌, ◌≤◌, T, eqb, pos, length, ◌≤ℤ◌};
 ghost use Rattle.integers.specs.Range.{Within};
 ghost use Rattle.model.specs.Job.{h_min, h_max, any, events, in_set, Job as Call};
