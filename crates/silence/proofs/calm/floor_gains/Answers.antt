@@ -1,0 +1,25 @@
+use native.Mathlib.Omega.{arith}
+use Rattle.model.specs.View.{side}
+use Rattle.tables.specs.Board.{board}
+use Rattle.levels.proofs.Adding.{wider, side_ranged, sum_none, sum_more}
+use Rattle.silence.specs.Calm.{floor_gain}
+use Rattle.silence.proofs.Calming.{floor_within, floors_within}
+use Rattle.silence.proofs.calm.floor_gains.Goals as goal
+
+pub loop-y-init : goal.loop-y-init
+loop-y-init c = let a = c.args in (omega arith, sum_none a.q.0 (floor_gain (side a.m (board a.b.now)) a.u.0))
+
+pub plus-total-requires : goal.plus-total-requires
+plus-total-requires c =
+    let a = c.args in
+    let l = c.loop-y in
+    let r = side_ranged a.m c.requires.0 in (
+      wider l.invariant.1 (floors_within l.y a.u.0 r c.requires.1 l.invariant.0) (omega arith),
+      wider c.floor_gain-h.ensures (floor_within a.u.0 l.y r c.loop-y-test.true) (omega arith),
+    )
+
+pub loop-y-preserved : goal.loop-y-preserved
+loop-y-preserved c =
+    let a = c.args in
+    let l = c.loop-y in
+    (omega arith, sum_more a.q.0 (floor_gain (side a.m (board a.b.now)) a.u.0) l.y l.invariant.1 c.floor_gain-h.ensures c.plus-total.ensures)

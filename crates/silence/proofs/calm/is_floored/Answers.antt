@@ -1,0 +1,16 @@
+-- `silence::calm::is_floored` compares the floor with the limit and d. Assumes nothing.
+use native.Mathlib.Omega.{arith}
+use Rattle.tables.specs.Job.{reservoir_of}
+use Rattle.levels.proofs.Viewing.{opening_within}
+use Rattle.levels.proofs.Adding.{wider, side_ranged}
+use Rattle.silence.proofs.Calming.{floors_within, drain_within}
+use Rattle.silence.proofs.calm.is_floored.Goals as goal
+
+pub plus-floor-requires : goal.plus-floor-requires
+plus-floor-requires c =
+    let a = c.args in
+    let r = side_ranged a.m c.requires.0 in
+    let q = wider {l = 1000000} c.side_opening.ensures (opening_within a.m (reservoir_of a.c) c.requires.1) (omega arith) in (
+      wider c.floor_gains-all.ensures (floors_within a.n c.t_min.result.0 r q (omega arith)) (omega arith),
+      wider c.drain.ensures (drain_within a.e r c.requires.2) (omega arith),
+    )
