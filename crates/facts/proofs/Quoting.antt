@@ -333,15 +333,16 @@ module _ {k : Job} {ws : List ℤ} (W : Windows) (r e y : ℕ) (x : Done) where
 
   pub cites_by_side : (m b : Bool) (f : Family) {v : Sight} {c : LevelCiting} → e < k.events → reservoir m b f ≡ rule r → Views k.events (reservoir_of k.reservoir) m b e v → LevelCites f v W y (effect_of x) c → Cites k ws W r e y x (Level c)
   unfolding quotes quoted
-  cites_by_side m b f there p s l =
+  cites_by_side m b f {v} there p s l =
+      let at : v.subject ≡ e = ap (λ (E : View). E.subject) (s.is W) in
       record {
         known = tt;
         cites = λ j h z n i.
             let o = h.holds in
-            l.cites z i ∙ rw (← p, s.is W, s.side_is) (sym (call_cites m b e W h (rw o.events_are there) f y (effect_of x) z (rw o.events_are n) (side_end m i)));
+            l.cites z i ∙ rw (← p, s.is W, s.side_is, at) (sym (call_cites m b e W h (rw o.events_are there) f y (effect_of x) z (rw o.events_are n) (side_end m i)));
         says = λ j h z n i t.
             let o = h.holds in
-            l.says z i t ∙ rw (← p, s.is W, s.side_is) (ap (side_value m i) (sym (call_says m b e W h (rw o.events_are there) f (effect_of x) z (rw o.events_are n) (side_end m i))));
+            l.says z i t ∙ rw (← p, s.is W, s.side_is, at) (ap (side_value m i) (sym (call_says m b e W h (rw o.events_are there) f (effect_of x) z (rw o.events_are n) (side_end m i))));
       }
 
 -- ---- a set's slip

@@ -1,4 +1,6 @@
 // Which facts a slip quotes and what it says of them.
+#![tactic(auto)]
+
 pub mod premises; // premises.rt: the facts of one slip, decided once
 
 use levels::View;
