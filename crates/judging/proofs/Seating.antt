@@ -12,7 +12,7 @@ use Rattle.integers.proofs.Linear.{ints}
 use Rattle.model.specs.Job.{End, t_min, t_max, h_min, h_max, Windows, windows, produces, events, cage_at, cage_of, cage_word, Job as Call}
 use Rattle.model.specs.Standing.{span, Ranged}
 use Rattle.model.specs.View.{here, shown}
-use Rattle.model.specs.Rules.{Rule, lag_upper, lag_lower, reservoir, rule, finding}
+use Rattle.model.specs.Rules.{Rule, lag_upper, lag_lower, rule, finding}
 use Rattle.model.specs.Slips.{Premise, Explanation, rule_of}
 use Rattle.model.specs.Reader.{gives}
 use Rattle.model.proofs.Sound.{named}
