@@ -134,7 +134,7 @@ fn accepts(v: Judgement) -> bool
 
 // The windows on the board stored in the table, if they are to be; else no word of it changes.
 fn leave(b: &[i32; 256], n: usize, table: &mut [i32], whole: bool)
-    requires* { do ⌜ (n ≤ 64) × ((← ⟦table.len()⟧) ≡ 5 * n) ⌝ }
+    requires { (n ≤ 64) × (length table.old ≡ 5 * n) }
     ensures { table.new ≡ cond whole (table_of n table.old b.now) table.old }
 {
     if whole {
