@@ -1,4 +1,6 @@
 // A round of the planner (propagator): one attempt, the attempts of a round in order.
+#![tactic(auto)]
+
 pub mod attempts; // attempts.rt: one attempt
 pub mod sweeps; // sweeps.rt: the attempts of a round in order
 

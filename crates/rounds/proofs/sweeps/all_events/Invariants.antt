@@ -1,0 +1,16 @@
+-- `rounds::sweeps::all_events` goes through the events, and passes over those at which no rule does anything, or over all of them. The loop's invariant: those of the events so far are made, and d is the largest width. Assumes nothing.
+use mathlib.Core.Path.{◌≡◌}
+use Prim.Native.Nat.{◌≤◌, ◌-◌}
+use Rattle.integers.specs.Range.{Within}
+use Rattle.model.specs.Agenda.{each_of, event_attempts}
+use Rattle.tables.specs.Board.{board}
+use Rattle.silence.specs.Calm.{spread_of}
+use Rattle.rounds.specs.State.{Made}
+use Rattle.rounds.proofs.sweeps.all_events.Given as goal
+
+abbrev pub invariant-loop-e : goal.invariant-loop-e
+invariant-loop-e l =
+    (l.e ≤ l.n) × Made l.k l.lags (λ j. each_of (event_attempts j) 0 l.e) l.initial.b l.initial.buffer l.initial.q l.b l.buffer l.q × (l.d.0 ≡ spread_of l.n (board l.b)) × Within l.d.0 20000
+
+abbrev pub decreases-loop-e : goal.decreases-loop-e
+decreases-loop-e l = l.n - l.e
