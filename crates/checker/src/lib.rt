@@ -1,4 +1,6 @@
 // The slip reader: accepts or refuses any list of slips, whoever wrote it.
+#![tactic(auto)]
+
 pub mod turns; // turns.rt: all slips in turn, each narrowing made before the next
 
 ghost use Rattle.std.specs.Prelude.{◌≡◌, cond, ◌*◌, ◌<◌, ◌≤◌, length};
