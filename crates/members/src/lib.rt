@@ -1,4 +1,6 @@
 // Rules 17 and 18 of all sets in a round: sets in order, members as listed, for each 17, then 18.
+#![tactic(auto)]
+
 ghost use Rattle.std.specs.Prelude.{◌≡◌, true, false, [], ◌∷◌, ◌<◌, ◌≤◌, length, ◌≤ℤ◌};
 ghost use Rattle.model.specs.Standing.{Ranged};
 ghost use Rattle.model.specs.Agenda.{try, set_attempts};
