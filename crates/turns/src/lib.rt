@@ -1,4 +1,6 @@
 // A round of a call: lags, sets, events. Of one cage all events are taken at once, of several each in its cage, since at each event a job is one of that event's cage, the others neutral.
+#![tactic(auto)]
+
 ghost use Rattle.std.specs.Prelude.{◌≡◌, ◌+◌, ◌*◌, ◌<◌, ◌≤◌, length};
 ghost use Rattle.model.specs.Job.{cage_at};
 ghost use Rattle.model.specs.Agenda.{event_attempts, agenda};
