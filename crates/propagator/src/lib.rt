@@ -1,4 +1,6 @@
 // The planner (propagator): rounds until settled, conflict or stopped, and the whole call.
+#![tactic(auto)]
+
 pub mod runs; // runs.rt: rounds until settled, conflict or stopped
 pub mod plans; // plans.rt: the whole call
 
