@@ -1,6 +1,6 @@
 -- Demands 1 to 3 of the call that plans and then reads, from the two contracts and the theory's theorem alone.
 -- Assumes nothing.
-use mathlib.Core.Path.{◌≡◌, refl, sym, ap, ◌∙◌}
+use mathlib.Core.Path.{◌≡◌, sym, ap, ◌∙◌}
 use mathlib.Core.List.{List}
 use Prim.Native.Nat.{ℕ, ◌≤◌}
 use native.Mathlib.Omega.{arith}
@@ -21,7 +21,6 @@ use Rattle.propagator.specs.declared.Answer.TheVariants.{Settled, Conflict, Stop
 use Rattle.questions.specs.declared.Refusal.{Refusal}
 use Rattle.reservoir.specs.Assured.{written_of, Taken, Assured}
 use Rattle.reservoir.specs.declared.Checked.{Checked}
-use Rattle.reservoir.specs.declared.Written.{Written}
 use Rattle.reservoir.specs.declared.Written.TheVariants.{Listed, Nothing}
 use Rattle.checker.specs.declared.Judgement.{Judgement as Said}
 

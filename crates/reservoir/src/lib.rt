@@ -2,6 +2,8 @@
 //
 // The planner is `propagator::plans::plan`, the reader `checker::check`. At each promise two wrong programs are named that it rules out;
 // each stands as an edit in its crate's must-fail and docs/EDITS.md tells which fact breaks.
+#![tactic(auto)]
+
 ghost use Rattle.std.specs.Prelude.{◌≡◌, length};
 ghost use Rattle.model.specs.Planner.{refused};
 ghost use Rattle.tables.specs.Job.{call};
