@@ -6,10 +6,8 @@ use mathlib.Core.List.{List}
 use Prim.Native.Nat.{ℕ, zero, suc, ◌+◌, ◌/◌, ◌%◌, ◌≤◌}
 use native.Mathlib.Omega.{arith}
 use lib.Dec.{eqb, leb, leb→le}
-use lib.IntN.{ℤ, pos, nat_abs}
+use lib.IntN.{ℤ, nat_abs}
 use lib.ListN.{length}
-use lib.Signed.{le_z}
-use Rattle.integers.specs.Range.{eq_z}
 use Rattle.integers.proofs.Tests.{true_is, and_out}
 use Rattle.model.specs.Job.{Windows, windows, widest, cage_at, cages, Job, events, begun}
 use Rattle.model.specs.Rules.{own_end, bound, effect, is_narrowing}

@@ -2,6 +2,8 @@
 // Each call returns its refusal number or 0, and writes five words: place or 0, outcome (settled 0, conflict 1, stopped 2, open 3), slips,
 // rounds, length. The last three are 0 from the reader; all but the place are 0 when refused.
 // A caller in another language lends whole tables, and those that are written apart from all others: no contract can ask it.
+#![tactic(auto)]
+
 ghost use Rattle.std.specs.Prelude.{◌≡◌, pos};
 ghost use Rattle.tables.specs.Job.{call};
 ghost use Rattle.model.specs.Planner.{plan};
