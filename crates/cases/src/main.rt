@@ -1,12 +1,15 @@
 // Runs the cases that standard input holds, one after the other, and prints each with its words.
 // A case is a line that names it, with a number sign in front, then numbers in the layout of a stream's record (`second/README.md`):
 // 1 planner or 2 reader, H, the round limit (0 for the reader), the words of the cage table, of the window table, of the lag table, of the set table, of the buffer or list; then these words.
+#![tactic(auto)]
+
 mod print;
 
 ghost use Rattle.std.specs.Prelude.{◌+◌, ◌≤◌, length};
 
 use print::{judged, line, planned, say, windows};
 use scanner::Scan;
+use std::io::Read;
 
 // Where a byte is next found from a place on, or the end.
 fn find(s: &[u8], from: usize, b: u8) -> usize
@@ -43,6 +46,7 @@ fn copy(from: &[i32], start: usize, to: &mut [i32])
 
 // The call itself. What the planner writes is printed as the list, then what it leaves as it was, then what the reader says of that list.
 fn call(
+    rt: &impl Print,
     numbers: &[i32; 1030],
     cages: &[i32],
     table: &mut [i32],
@@ -56,24 +60,25 @@ fn call(
         );
         let answer = checked.answer;
         let judgement = checked.judgement;
-        let length = planned(answer);
-        windows(table);
+        let length = planned(rt, answer);
+        windows(rt, table);
         if length <= list.len() {
-            line(b"list", &list[0..length]);
-            line(b"kept", &list[length..]);
+            line(rt, b"list", &list[0..length]);
+            line(rt, b"kept", &list[length..]);
         }
-        say(b"read ");
-        judged(judgement);
+        say(rt, b"read ");
+        judged(rt, judgement);
         return;
     }
     let judgement = checker::check(numbers[1], cages, table, lags, sets, list);
-    judged(judgement);
-    windows(table);
-    line(b"list", list);
+    judged(rt, judgement);
+    windows(rt, table);
+    line(rt, b"list", list);
 }
 
 // A case's five tables, cut out of its numbers.
 fn cut(
+    rt: &impl Print,
     numbers: &[i32; 1030],
     cages: &mut [i32],
     table: &mut [i32],
@@ -92,11 +97,12 @@ fn cut(
     copy(numbers, g, lags);
     copy(numbers, s, sets);
     copy(numbers, b, list);
-    call(numbers, cages, table, lags, sets, list);
+    call(rt, numbers, cages, table, lags, sets, list);
 }
 
 // A case of n numbers, which has to be its header and five tables that fit the ones lent here.
 fn sized(
+    rt: &impl Print,
     numbers: &[i32; 1030],
     n: usize,
     cages: &mut [i32],
@@ -132,6 +138,7 @@ fn sized(
         return false;
     }
     cut(
+        rt,
         numbers,
         &mut cages[..c],
         &mut table[..w],
@@ -142,13 +149,13 @@ fn sized(
     true
 }
 
-fn case(name: &[u8], words: &[u8]) {
-    say(name);
-    say(b"\n");
+fn case(rt: &impl Print, name: &[u8], words: &[u8]) {
+    say(rt, name);
+    say(rt, b"\n");
     let mut numbers = [0i32; 1030];
     let scan = scanner::feed(scanner::start(), words, &mut numbers);
     let Scan::Between(n) = scan else {
-        say(b"not a case\n");
+        say(rt, b"not a case\n");
         return;
     };
     let mut cages = [0i32; 40];
@@ -157,25 +164,40 @@ fn case(name: &[u8], words: &[u8]) {
     let mut sets = [0i32; 1200];
     let mut list = [0i32; 1000];
     if !sized(
-        &numbers, n, &mut cages, &mut table, &mut lags, &mut sets, &mut list,
+        rt, &numbers, n, &mut cages, &mut table, &mut lags, &mut sets, &mut list,
     ) {
-        say(b"not a case\n");
+        say(rt, b"not a case\n");
     }
 }
 
 // All cases. What stands before the first number sign is no case.
-fn all(s: &[u8]) {
+fn all(rt: &impl Print, s: &[u8]) {
     let mut at = find(s, 0, b'#');
     while at < s.len() {
         let words = find(s, at + 1, b'\n');
         let next = find(s, words, b'#');
-        case(&s[at..words], &s[words..next]);
+        case(rt, &s[at..words], &s[words..next]);
         at = next;
     }
 }
 
-fn main() {
-    let mut space = io::large_buffer();
-    let n = io::read_full(0, &mut space);
-    all(&space[..n]);
+// Reads until the space is full, the input ends or a read fails, and returns how many bytes it put at the start of the space.
+fn read_full(input: &mut impl Read, space: &mut [u8]) -> usize
+    ensures { result ≤ length space.new }
+{
+    let mut done = 0;
+    while done < space.len() {
+        let got = input.read(&mut space[done..]).unwrap_or(0);
+        if got == 0 {
+            break;
+        }
+        done += got;
+    }
+    done
+}
+
+fn main(rt: HostRuntime) {
+    let mut space = [0u8; 65536];
+    let n = read_full(&mut rt.stdin(), &mut space);
+    all(&rt, &space[..n]);
 }

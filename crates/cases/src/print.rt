@@ -1,84 +1,79 @@
 // What the program prints: an answer's line, the windows by event, a list's words.
+// Whoever runs it compares what it printed, so a write that fails is passed over.
 use checker::Judgement;
-use printer::magnitude;
 use propagator::{Answer, Counts};
 use questions::Refusal;
 
-pub fn say(text: &[u8]) {
-    io::write_all(1, text);
+pub fn say(rt: &impl Print, text: &[u8]) {
+    let _ = rt.write_all(text);
 }
 
-fn natural(n: usize) {
-    say(b" ");
-    io::print_decimal(1, n as u64);
+fn natural(rt: &impl Print, n: usize) {
+    let _ = print!(rt; " {n}");
 }
 
-fn word(x: i32) {
-    say(b" ");
-    if x < 0 {
-        say(b"-");
-    }
-    io::print_decimal(1, magnitude(x) as u64);
+fn word(rt: &impl Print, x: i32) {
+    let _ = print!(rt; " {x}");
 }
 
 // A title and words, on one line.
-pub fn line(title: &[u8], words: &[i32]) {
-    say(title);
+pub fn line(rt: &impl Print, title: &[u8], words: &[i32]) {
+    say(rt, title);
     let mut i: usize = 0;
     while i < words.len() {
-        word(words[i]);
+        word(rt, words[i]);
         i += 1;
     }
-    say(b"\n");
+    say(rt, b"\n");
 }
 
 // Each event's number and five words, a line each.
-pub fn windows(table: &[i32]) {
+pub fn windows(rt: &impl Print, table: &[i32]) {
     let mut left = table.len();
     let mut y: usize = 0;
     while 5 <= left {
         let at = table.len() - left;
-        io::print_decimal(1, y as u64);
-        line(b"", &table[at..at + 5]);
+        let _ = print!(rt; "{y}");
+        line(rt, b"", &table[at..at + 5]);
         left -= 5;
         y += 1;
     }
 }
 
 // The answer's word, slips and rounds; the list's length.
-fn counted(title: &[u8], c: Counts) -> usize {
-    say(title);
-    natural(c.slips);
-    natural(c.rounds);
-    say(b"\n");
+fn counted(rt: &impl Print, title: &[u8], c: Counts) -> usize {
+    say(rt, title);
+    natural(rt, c.slips);
+    natural(rt, c.rounds);
+    say(rt, b"\n");
     c.length
 }
 
-pub fn refused(r: Refusal) {
-    say(b"refused");
-    natural(r.number);
-    natural(r.place);
-    say(b"\n");
+pub fn refused(rt: &impl Print, r: Refusal) {
+    say(rt, b"refused");
+    natural(rt, r.number);
+    natural(rt, r.place);
+    say(rt, b"\n");
 }
 
 // The planner's answer; the length of the list that it wrote, which is 0 where it refused.
-pub fn planned(answer: Answer) -> usize {
+pub fn planned(rt: &impl Print, answer: Answer) -> usize {
     match answer {
-        Answer::Settled(c) => counted(b"settled", c),
-        Answer::Conflict(c) => counted(b"conflict", c),
-        Answer::Stopped(c) => counted(b"stopped", c),
+        Answer::Settled(c) => counted(rt, b"settled", c),
+        Answer::Conflict(c) => counted(rt, b"conflict", c),
+        Answer::Stopped(c) => counted(rt, b"stopped", c),
         Answer::Refused(r) => {
-            refused(r);
+            refused(rt, r);
             0
         }
     }
 }
 
 // The reader's answer.
-pub fn judged(judgement: Judgement) {
+pub fn judged(rt: &impl Print, judgement: Judgement) {
     match judgement {
-        Judgement::Open => say(b"open\n"),
-        Judgement::Conflict => say(b"conflict\n"),
-        Judgement::Refused(r) => refused(r),
+        Judgement::Open => say(rt, b"open\n"),
+        Judgement::Conflict => say(rt, b"conflict\n"),
+        Judgement::Refused(r) => refused(rt, r),
     }
 }

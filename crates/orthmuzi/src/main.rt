@@ -1,5 +1,7 @@
 // The program: a job read from standard input, planned, and the answer printed on standard output.
 // Only `read_some`, `tell` and `complain` touch the outside. What is read goes through `scanner::take`, and what is written is what `tell` asks for.
+#![tactic(auto)]
+
 ghost use Rattle.std.specs.Prelude.{◌≡◌, ◌≤◌, length};
 ghost use Rattle.model.specs.Text.{parsed};
 ghost use Rattle.model.specs.Print.{printed};
@@ -11,10 +13,10 @@ ghost use Rattle.scanner.specs.Layout.{job_in, Room};
 ghost use Rattle.printer.specs.Buffer.{Printed};
 ghost use Rattle.orthmuzi.specs.Hearing.{Took, Heard};
 
-use libc::{STDERR_FILENO, STDIN_FILENO, STDOUT_FILENO};
 use propagator::Answer;
 use propagator::plans::plan;
 use scanner::{Layout, MOST_NUMBERS, Scan, Sizes, Taken};
+use std::io::{Read, Write};
 
 // An answer as text.
 fn report(a: Answer, windows: &[i32], out: &mut [u8]) -> usize
@@ -96,55 +98,59 @@ fn answer(s: Scan, table: &mut [i32], out: &mut [u8]) -> usize
     table_planned(sizes, table, &mut space, out)
 }
 
-// A line on standard error.
-fn complain(line: &[u8]) {
-    io::write_all(STDERR_FILENO, line);
+// A line on standard error. Where it cannot be written either, nobody is left to be told.
+fn complain(errors: &mut impl Write, line: &[u8]) {
+    let _ = errors.write_all(line);
 }
 
 // Reads once, and takes what came.
-fn read_some(s: Scan, table: &mut [i32]) -> Taken
+fn read_some(input: &mut impl Read, errors: &mut impl Write, s: Scan, table: &mut [i32]) -> Taken
     ensures { Took s table.old result table.new }
 {
-    let mut piece = io::large_buffer();
-    let got = libc::read(STDIN_FILENO, &mut piece);
-    if got < 0 {
-        complain(b"orthmuzi: standard input could not be read to its end\n");
-    }
+    let mut piece = [0u8; 65536];
+    let got = match input.read(&mut piece) {
+        Ok(n) => n as isize,
+        Err(_) => {
+            complain(
+                errors,
+                b"orthmuzi: standard input could not be read to its end\n",
+            );
+            -1
+        }
+    };
     scanner::take(s, &piece, got, table)
 }
 
-// Reads to the end of the input. A proved loop has to end, and nothing says that the input does: it counts its turns down from a number that no run uses up.
-fn read_all(table: &mut [i32]) -> Scan
+// Reads to the end of the input. A proved loop has to end, and nothing says that the input does: it takes no more turns than a number that no run uses up.
+fn read_all(input: &mut impl Read, errors: &mut impl Write, table: &mut [i32]) -> Scan
     requires { 2198 ≤ length table.old }
     ensures { Heard result table.new }
 {
     let mut scan = scanner::start();
-    let mut turns = u64::MAX;
-    while turns > 0 {
-        let taken = read_some(scan, table);
+    for _ in 0..u64::MAX {
+        let taken = read_some(input, errors, scan, table);
         scan = taken.scan;
         if !taken.more {
             return scan;
         }
-        turns -= 1;
     }
     Scan::Malformed
 }
 
 // Writes the answer, which has to be that of the text read.
 // It rules out a program that writes nothing (nothing_told) and one that writes another answer (conflict_as_settled, refused_as_21, room_too_small).
-fn tell(answer: &[u8])
+fn tell(output: &mut impl Write, errors: &mut impl Write, answer: &[u8])
     requires { Told answer.now }
 {
-    if !io::write_all(STDOUT_FILENO, answer) {
-        complain(b"orthmuzi: the answer could not be written\n");
+    if output.write_all(answer).is_err() {
+        complain(errors, b"orthmuzi: the answer could not be written\n");
     }
 }
 
-fn main() {
+fn main(rt: HostRuntime) {
     let mut table = [0i32; MOST_NUMBERS];
     let mut out = [0u8; 8192];
-    let s = read_all(&mut table);
+    let s = read_all(&mut rt.stdin(), &mut rt.stderr(), &mut table);
     let n = answer(s, &mut table, &mut out);
-    tell(&out[..n]);
+    tell(&mut rt.stdout(), &mut rt.stderr(), &out[..n]);
 }

@@ -7,61 +7,62 @@ use checker::Judgement;
 use propagator::{Answer, Counts};
 use questions::Refusal;
 
-fn counts(out: &mut [u8; 65536], at: usize, c: Counts) -> usize
+fn counts(rt: &impl Print, out: &mut [u8; 65536], at: usize, c: Counts) -> usize
     ensures { result ≤ 65536 }
 {
-    let o = number(out, at, c.slips as u64);
-    let o = number(out, o, c.rounds as u64);
-    number(out, o, c.length as u64)
+    let o = number(rt, out, at, c.slips as u64);
+    let o = number(rt, out, o, c.rounds as u64);
+    number(rt, out, o, c.length as u64)
 }
 
-fn refusal(out: &mut [u8; 65536], at: usize, r: Refusal) -> usize
+fn refusal(rt: &impl Print, out: &mut [u8; 65536], at: usize, r: Refusal) -> usize
     ensures { result ≤ 65536 }
 {
-    let o = number(out, at, r.number as u64);
-    number(out, o, r.place as u64)
+    let o = number(rt, out, at, r.number as u64);
+    number(rt, out, o, r.place as u64)
 }
 
-fn planned(out: &mut [u8; 65536], at: usize, answer: Answer) -> usize
+fn planned(rt: &impl Print, out: &mut [u8; 65536], at: usize, answer: Answer) -> usize
     requires { at ≤ 65536 }
     ensures { result ≤ 65536 }
 {
     match answer {
         Answer::Settled(c) => {
-            let o = text(out, at, b"plan settled");
-            counts(out, o, c)
+            let o = text(rt, out, at, b"plan settled");
+            counts(rt, out, o, c)
         }
         Answer::Conflict(c) => {
-            let o = text(out, at, b"plan conflict");
-            counts(out, o, c)
+            let o = text(rt, out, at, b"plan conflict");
+            counts(rt, out, o, c)
         }
         Answer::Stopped(c) => {
-            let o = text(out, at, b"plan stopped");
-            counts(out, o, c)
+            let o = text(rt, out, at, b"plan stopped");
+            counts(rt, out, o, c)
         }
         Answer::Refused(r) => {
-            let o = text(out, at, b"plan refused");
-            refusal(out, o, r)
+            let o = text(rt, out, at, b"plan refused");
+            refusal(rt, out, o, r)
         }
     }
 }
 
-fn judged(out: &mut [u8; 65536], at: usize, judgement: Judgement) -> usize
+fn judged(rt: &impl Print, out: &mut [u8; 65536], at: usize, judgement: Judgement) -> usize
     requires { at ≤ 65536 }
     ensures { result ≤ 65536 }
 {
     match judgement {
-        Judgement::Open => text(out, at, b"read open"),
-        Judgement::Conflict => text(out, at, b"read conflict"),
+        Judgement::Open => text(rt, out, at, b"read open"),
+        Judgement::Conflict => text(rt, out, at, b"read conflict"),
         Judgement::Refused(r) => {
-            let o = text(out, at, b"read refused");
-            refusal(out, o, r)
+            let o = text(rt, out, at, b"read refused");
+            refusal(rt, out, o, r)
         }
     }
 }
 
 // The call that the record is for: 1 the planner, else the reader.
 fn call(
+    rt: &impl Print,
     out: &mut [u8; 65536],
     at: usize,
     kind: i32,
@@ -78,13 +79,14 @@ fn call(
 {
     if kind == 1 {
         let answer = propagator::plans::plan(h, cages, table, lags, sets, limit, list);
-        return planned(out, at, answer);
+        return planned(rt, out, at, answer);
     }
     let judgement = checker::check(h, cages, table, lags, sets, list);
-    judged(out, at, judgement)
+    judged(rt, out, at, judgement)
 }
 
 pub fn answer(
+    rt: &impl Print,
     out: &mut [u8; 65536],
     at: usize,
     kind: i32,
@@ -99,8 +101,8 @@ pub fn answer(
     requires { at ≤ 65536 }
     ensures { result ≤ 65536 }
 {
-    let o = call(out, at, kind, h, limit, cages, table, lags, sets, list);
-    let o = number(out, o, checksum(table));
-    let o = number(out, o, checksum(list));
-    put(out, o, b'\n')
+    let o = call(rt, out, at, kind, h, limit, cages, table, lags, sets, list);
+    let o = number(rt, out, o, checksum(table));
+    let o = number(rt, out, o, checksum(list));
+    put(rt, out, o, b'\n')
 }

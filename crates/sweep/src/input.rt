@@ -1,5 +1,8 @@
 // Standard input, word by word, read in pieces.
+ghost use Rattle.std.specs.Prelude.{◌≤◌, length};
+
 use super::words::word;
+use std::io::Read;
 
 // Where reading stands in the piece at hand, and where that piece ends.
 #[derive(Clone, Copy)]
@@ -41,23 +44,43 @@ fn held(piece: &[u8; 65536], at: usize, end: usize) -> Next {
     Next::Word(w, after)
 }
 
+// Reads until the space is full, the input ends or a read fails, and returns how many bytes it put at the start of the space.
+fn read_full(stdin: &mut impl Read, space: &mut [u8]) -> usize
+    ensures { result ≤ length space.new }
+{
+    let mut done = 0;
+    while done < space.len() {
+        let got = stdin.read(&mut space[done..]).unwrap_or(0);
+        if got == 0 {
+            break;
+        }
+        done += got;
+    }
+    done
+}
+
 // The next word. A piece is a whole number of words, so that none lies across two.
-pub fn take_word(piece: &mut [u8; 65536], from: Input) -> Next {
+pub fn take_word(stdin: &mut impl Read, piece: &mut [u8; 65536], from: Input) -> Next {
     let at = from.at;
     let end = from.end;
     if at < end {
         return held(piece, at, end);
     }
-    let got = io::read_full(0, piece);
+    let got = read_full(stdin, piece);
     held(piece, 0, got)
 }
 
 // All words of a table.
-pub fn fill(piece: &mut [u8; 65536], from: Input, table: &mut [i32]) -> Filled {
+pub fn fill(
+    stdin: &mut impl Read,
+    piece: &mut [u8; 65536],
+    from: Input,
+    table: &mut [i32],
+) -> Filled {
     let mut input = from;
     let mut i: usize = 0;
     while i < table.len() {
-        let found = take_word(piece, input);
+        let found = take_word(stdin, piece, input);
         let Next::Word(w, after) = found else {
             return Filled::Cut;
         };
@@ -69,16 +92,23 @@ pub fn fill(piece: &mut [u8; 65536], from: Input, table: &mut [i32]) -> Filled {
 }
 
 // Two tables, one after the other.
-fn fill_two(piece: &mut [u8; 65536], from: Input, first: &mut [i32], second: &mut [i32]) -> Filled {
-    let filled = fill(piece, from, first);
+fn fill_two(
+    stdin: &mut impl Read,
+    piece: &mut [u8; 65536],
+    from: Input,
+    first: &mut [i32],
+    second: &mut [i32],
+) -> Filled {
+    let filled = fill(stdin, piece, from, first);
     let Filled::All(input) = filled else {
         return Filled::Cut;
     };
-    fill(piece, input, second)
+    fill(stdin, piece, input, second)
 }
 
 // A record's five tables, one after the other.
 pub fn fill_five(
+    stdin: &mut impl Read,
     piece: &mut [u8; 65536],
     from: Input,
     first: &mut [i32],
@@ -87,13 +117,13 @@ pub fn fill_five(
     fourth: &mut [i32],
     fifth: &mut [i32],
 ) -> Filled {
-    let filled = fill_two(piece, from, first, second);
+    let filled = fill_two(stdin, piece, from, first, second);
     let Filled::All(input) = filled else {
         return Filled::Cut;
     };
-    let filled = fill_two(piece, input, third, fourth);
+    let filled = fill_two(stdin, piece, input, third, fourth);
     let Filled::All(input) = filled else {
         return Filled::Cut;
     };
-    fill(piece, input, fifth)
+    fill(stdin, piece, input, fifth)
 }

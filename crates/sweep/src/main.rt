@@ -1,6 +1,8 @@
 // Answers a stream of records, a line each, just as the second program's `answers` does. `.ci/run` compares the two on a large stream;
 // the stored `stdin` is `second stream 896 40 160`, in which the planner refuses by 28 and the reader by every other number that there is.
 // A record beyond the limits, an unknown one, or a stream cut short ends the program with a line that says so.
+#![tactic(auto)]
+
 mod answers;
 mod input;
 mod lines;
@@ -11,6 +13,7 @@ ghost use Rattle.std.specs.Prelude.{◌≤◌};
 use answers::answer;
 use input::{Filled, Input, Next, fill, fill_five, take_word};
 use lines::{flush, text};
+use std::io::Read;
 
 // Where the program stands in its input and in its output, and whether there is more to answer.
 #[derive(Clone, Copy)]
@@ -21,13 +24,13 @@ struct State {
 }
 
 // The last line; all that is left is written out.
-fn stop(out: &mut [u8; 65536], s: State, line: &[u8]) -> State
+fn stop(rt: &impl Print, out: &mut [u8; 65536], s: State, line: &[u8]) -> State
     requires { s.at ≤ 65536 }
     ensures { result.at ≤ 65536 }
 {
     let input = s.input;
-    let o = text(out, s.at, line);
-    flush(out, o);
+    let o = text(rt, out, s.at, line);
+    flush(rt, out, o);
     State {
         input: input,
         at: 0,
@@ -45,6 +48,8 @@ fn size(x: i32) -> usize {
 
 // The five tables of a record, whose lengths are known to be within the limits.
 fn record(
+    rt: &impl Print,
+    stdin: &mut impl Read,
     piece: &mut [u8; 65536],
     out: &mut [u8; 65536],
     s: State,
@@ -60,12 +65,12 @@ fn record(
     ensures { result.at ≤ 65536 }
 {
     let input = s.input;
-    let filled = fill_five(piece, input, cages, table, lags, sets, list);
+    let filled = fill_five(stdin, piece, input, cages, table, lags, sets, list);
     let Filled::All(input) = filled else {
-        return stop(out, s, b"the stream is cut short\n");
+        return stop(rt, out, s, b"the stream is cut short\n");
     };
     let o = answer(
-        out, s.at, kind, head[0], head[1], cages, table, lags, sets, list,
+        rt, out, s.at, kind, head[0], head[1], cages, table, lags, sets, list,
     );
     State {
         input: input,
@@ -76,6 +81,8 @@ fn record(
 
 // A record's lengths are held against the limits, which are the lengths of the tables lent here.
 fn sized(
+    rt: &impl Print,
+    stdin: &mut impl Read,
     piece: &mut [u8; 65536],
     out: &mut [u8; 65536],
     s: State,
@@ -92,25 +99,27 @@ fn sized(
 {
     let c = size(head[2]);
     if cages.len() < c {
-        return stop(out, s, b"a cage table is too long\n");
+        return stop(rt, out, s, b"a cage table is too long\n");
     }
     let w = size(head[3]);
     if table.len() < w {
-        return stop(out, s, b"a window table is too long\n");
+        return stop(rt, out, s, b"a window table is too long\n");
     }
     let g = size(head[4]);
     if lags.len() < g {
-        return stop(out, s, b"a lag table is too long\n");
+        return stop(rt, out, s, b"a lag table is too long\n");
     }
     let t = size(head[5]);
     if sets.len() < t {
-        return stop(out, s, b"a set table is too long\n");
+        return stop(rt, out, s, b"a set table is too long\n");
     }
     let b = size(head[6]);
     if list.len() < b {
-        return stop(out, s, b"a list is too long\n");
+        return stop(rt, out, s, b"a list is too long\n");
     }
     record(
+        rt,
+        stdin,
         piece,
         out,
         s,
@@ -129,6 +138,8 @@ fn is_call(kind: i32) -> bool {
 }
 
 fn step(
+    rt: &impl Print,
+    stdin: &mut impl Read,
     piece: &mut [u8; 65536],
     out: &mut [u8; 65536],
     s: State,
@@ -142,32 +153,35 @@ fn step(
     ensures { result.at ≤ 65536 }
 {
     let input = s.input;
-    let first = take_word(piece, input);
+    let first = take_word(stdin, piece, input);
     let Next::Word(kind, input) = first else {
-        return stop(out, s, b"the stream is cut short\n");
+        return stop(rt, out, s, b"the stream is cut short\n");
     };
     if kind == 0 {
-        return stop(out, s, b"");
+        return stop(rt, out, s, b"");
     }
     if !is_call(kind) {
-        return stop(out, s, b"an unknown kind of record\n");
+        return stop(rt, out, s, b"an unknown kind of record\n");
     }
     let mut head = [0i32; 7];
-    let filled = fill(piece, input, &mut head);
+    let filled = fill(stdin, piece, input, &mut head);
     let Filled::All(input) = filled else {
-        return stop(out, s, b"the stream is cut short\n");
+        return stop(rt, out, s, b"the stream is cut short\n");
     };
     let s = State {
         input: input,
         at: s.at,
         more: true,
     };
-    sized(piece, out, s, kind, &head, cages, table, lags, sets, list)
+    sized(
+        rt, stdin, piece, out, s, kind, &head, cages, table, lags, sets, list,
+    )
 }
 
-fn main() {
-    let mut piece = io::large_buffer();
-    let mut out = io::large_buffer();
+fn main(rt: HostRuntime) {
+    let mut stdin = rt.stdin();
+    let mut piece = [0u8; 65536];
+    let mut out = [0u8; 65536];
     let mut cages = [0i32; 40];
     let mut table = [0i32; 360];
     let mut lags = [0i32; 800];
@@ -178,11 +192,13 @@ fn main() {
         at: 0,
         more: true,
     };
-    let mut turns = u64::MAX;
-    while turns > 0 && s.more {
+    for _ in 0..u64::MAX {
         s = step(
-            &mut piece, &mut out, s, &mut cages, &mut table, &mut lags, &mut sets, &mut list,
+            &rt, &mut stdin, &mut piece, &mut out, s, &mut cages, &mut table, &mut lags, &mut sets,
+            &mut list,
         );
-        turns -= 1;
+        if !s.more {
+            break;
+        }
     }
 }
