@@ -1,5 +1,5 @@
 -- The table keeps its length. The measure is what is left to copy.
-use Rattle.std.proofs.Common.{length, ◌-◌, ◌≡◌, ◌≤◌}
+use Rattle.std.proofs.Common.{length, ◌-◌, ◌≤◌}
 use Rattle.cases.proofs.copy.Given as goal
 
 abbrev pub invariant-loop-i : goal.invariant-loop-i
