@@ -1,14 +1,7 @@
 -- Pieces taken one after the other: what the scan says at the end is what their text says.
 -- Assumes nothing.
-use mathlib.Core.Path.{◌≡◌, refl, sym, ap, ◌∙◌}
-use mathlib.Core.Bool.{Bool, true, false, not}
-use mathlib.Core.List.{List, [], ◌∷◌, ◌++◌, append_assoc, append-nil}
-use mathlib.Core.Logic.{inl, inr}
-use Prim.Native.Nat.{ℕ, ◌+◌, ◌-◌, ◌^◌, ◌≤◌, ◌<◌}
-use native.Mathlib.Omega.{arith}
+use Rattle.std.proofs.Common.{◌≡◌, refl, sym, ap, ◌∙◌, true, false, List, [], ◌∷◌, ◌++◌, append_assoc, append-nil, inl, inr, ℕ, ◌+◌, ◌-◌, ◌^◌, ◌≤◌, ℤ, length, length-append, arith}
 use borrow.Author.Tests.{ltb-false}
-use lib.IntN.{ℤ}
-use lib.ListN.{length, length-append}
 use Rattle.integers.proofs.Tests.{true_is}
 use Rattle.model.specs.Text.{Parsed, parsed, malformed, on, job_text}
 use Rattle.model.specs.Program.{Piece, gave, failed, text_of, Ended, came_to_end, broke_off, went_on}
@@ -19,12 +12,6 @@ use Rattle.scanner.specs.declared.pieces.Taken.{Taken}
 use Rattle.scanner.proofs.Steps.{fed_append}
 use Rattle.scanner.proofs.Reading.{reads}
 use Rattle.orthmuzi.specs.Hearing.{Took, Heard}
-
-turned : (a b : Bool) → not a ≡ not b → a ≡ b
-turned true true e = refl
-turned true false e = sym e
-turned false true e = sym e
-turned false false e = refl
 
 -- Pieces that all gave bytes, and their text.
 data Came : List Piece → List ℕ → Type 0 where
@@ -50,22 +37,22 @@ came_ended nothing e = e
 came_ended (more {pieces = ps} b bytes c) {qs} e =
     rw (append_assoc ps (gave (b ∷ bytes) ∷ []) qs) (came_ended c (went_on e))
 
--- After some turns of the loop, so many of which are left.
+-- After so many turns of the loop.
 pub record Going (fresh : List ℤ) (s : Scan) (t : List ℤ) (turns : ℕ) : Type 0 where
   pieces : List Piece
   text : List ℕ
   came : Came pieces text
-  many : length pieces + turns ≡ 2 ^ 64 - 1
+  many : length pieces ≡ turns
   is : state s t ≡ fed (state (Between 0) fresh) text
 
-pub going_start : (fresh : List ℤ) {s : Scan} → s ≡ Between 0 → Going fresh s fresh (2 ^ 64 - 1)
+pub going_start : (fresh : List ℤ) {s : Scan} → s ≡ Between 0 → Going fresh s fresh 0
 unfolding fed
 going_start fresh e =
     record { pieces = []; text = []; came = nothing; many = refl; is = ap (λ (x : Scan). state x fresh) e }
 
 module _ {fresh : List ℤ} {s : Scan} {t : List ℤ} {turns : ℕ} (g : Going fresh s t turns) where
   -- All turns are used up.
-  pub going_over : turns ≡ 0 → Heard Malformed t
+  pub going_over : 2 ^ 64 - 1 ≤ turns → Heard Malformed t
   unfolding text_of
   going_over e =
       record {
@@ -75,10 +62,10 @@ module _ {fresh : List ℤ} {s : Scan} {t : List ℤ} {turns : ℕ} (g : Going f
       }
 
   module _ {r : Taken} {u : List ℤ} (k : Took s t r u) where
-    further : (p : Piece) → goes_on p ≡ true → state r.scan u ≡ taken (state s t) p → 0 < turns → Going fresh r.scan u (turns - 1)
-    further failed m e h = absurd (true_is m)
-    further (gave []) m e h = absurd (true_is m)
-    further (gave (b ∷ bytes)) m e h =
+    further : (p : Piece) → goes_on p ≡ true → state r.scan u ≡ taken (state s t) p → Going fresh r.scan u (turns + 1)
+    further failed m e = absurd (true_is m)
+    further (gave []) m e = absurd (true_is m)
+    further (gave (b ∷ bytes)) m e =
         record {
           pieces = g.pieces ++ (gave (b ∷ bytes) ∷ []);
           text = g.text ++ (b ∷ bytes);
@@ -87,8 +74,8 @@ module _ {fresh : List ℤ} {s : Scan} {t : List ℤ} {turns : ℕ} (g : Going f
           is = e ∙ ap (λ (x : State). fed x (b ∷ bytes)) g.is ∙ sym (fed_append (state (Between 0) fresh) g.text (b ∷ bytes));
         }
 
-    pub going_on : not r.more ≡ false → 0 < turns → Going fresh r.scan u (turns - 1)
-    going_on m h = further k.piece (sym k.more ∙ turned r.more true m) k.scan h
+    pub going_on : r.more ≡ true → Going fresh r.scan u (turns + 1)
+    going_on m = further k.piece (sym k.more ∙ m) k.scan
 
     last : 2198 ≤ length fresh → (p : Piece) → goes_on p ≡ false → state r.scan u ≡ taken (state s t) p → Heard r.scan u
     unfolding text_of fed
@@ -110,5 +97,5 @@ module _ {fresh : List ℤ} {s : Scan} {t : List ℤ} {turns : ℕ} (g : Going f
         }
     last l (gave (b ∷ bytes)) m e = absurd (omega (arith, ltb-false 0 (length (b ∷ bytes)) m))
 
-    pub going_end : 2198 ≤ length fresh → not r.more ≡ true → Heard r.scan u
-    going_end l m = last l k.piece (sym k.more ∙ turned r.more false m) k.scan
+    pub going_end : 2198 ≤ length fresh → r.more ≡ false → Heard r.scan u
+    going_end l m = last l k.piece (sym k.more ∙ m) k.scan

@@ -35,11 +35,7 @@ fn copy(from: &[i32], to: &mut [i32])
     requires { length from.now ≡ length to.old }
     ensures { to.new ≡ from.now }
 {
-    let mut i: usize = 0;
-    while i < to.len() {
-        to[i] = from[i];
-        i += 1;
-    }
+    to.copy_from_slice(from);
 }
 
 // A job planned with a round limit in a slip room of 16,000 words, and its answer put into `out`.
