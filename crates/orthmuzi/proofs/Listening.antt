@@ -1,5 +1,7 @@
 -- Pieces taken one after the other: what the scan says at the end is what their text says.
 -- Assumes nothing.
+use Rattle.std.specs.Prelude.{Option, None, Some}
+use Rattle.std.specs.Io.KnownBytes.{Consumes, IsAtEnd}
 use Rattle.std.proofs.Common.{◌≡◌, refl, sym, ap, ◌∙◌, true, false, List, [], ◌∷◌, ◌++◌, append_assoc, append-nil, inl, inr, ℕ, ◌+◌, ◌-◌, ◌^◌, ◌≤◌, ℤ, length, length-append, arith}
 use borrow.Author.Tests.{ltb-false}
 use Rattle.integers.proofs.Tests.{true_is}
@@ -11,7 +13,7 @@ use Rattle.scanner.specs.declared.scan.Scan.TheVariants.{Between, Malformed}
 use Rattle.scanner.specs.declared.pieces.Taken.{Taken}
 use Rattle.scanner.proofs.Steps.{fed_append}
 use Rattle.scanner.proofs.Reading.{reads}
-use Rattle.orthmuzi.specs.Hearing.{Took, Heard}
+use Rattle.orthmuzi.specs.Hearing.{Gives, Took, Whole, Heard}
 
 -- Pieces that all gave bytes, and their text.
 data Came : List Piece → List ℕ → Type 0 where
@@ -37,65 +39,99 @@ came_ended nothing e = e
 came_ended (more {pieces = ps} b bytes c) {qs} e =
     rw (append_assoc ps (gave (b ∷ bytes) ∷ []) qs) (came_ended c (went_on e))
 
+-- ---- bytes that are known to be left
+
+consumes_more : (before after later : Option (List ℕ)) (text bytes : List ℕ) → Consumes before after text → Consumes after later bytes → Consumes before later (text ++ bytes)
+consumes_more None after later text bytes c d = tt
+consumes_more (Some xs) None later text bytes c d = elim c [ ]
+consumes_more (Some xs) (Some ys) None text bytes c d = elim d [ ]
+consumes_more (Some xs) (Some ys) (Some zs) text bytes c d =
+    c ∙ ap (λ (l : List ℕ). text ++ l) d ∙ sym (append_assoc text bytes zs)
+
+-- A text that is not known to its end.
+whole_never : (before : Option (List ℕ)) (pieces : List Piece) → text_of pieces ≡ malformed → Whole before pieces
+whole_never None pieces e = tt
+whole_never (Some xs) pieces e = λ text f. grind (arith, e, f)
+
+-- All of it was consumed.
+whole_end : (before after : Option (List ℕ)) (pieces : List Piece) (text : List ℕ) → Consumes before after text → IsAtEnd after → text_of pieces ≡ parsed text → Whole before pieces
+whole_end None after pieces text c a e = tt
+whole_end (Some xs) None pieces text c a e = elim c [ ]
+whole_end (Some xs) (Some ys) pieces text c a e = λ x f. grind (arith, append-nil, a, c, e, f)
+
+-- ---- turns
+
 -- After so many turns of the loop.
-pub record Going (fresh : List ℤ) (s : Scan) (t : List ℤ) (turns : ℕ) : Type 0 where
+pub record Going (before : Option (List ℕ)) (fresh : List ℤ) (after : Option (List ℕ)) (s : Scan) (t : List ℤ) (turns : ℕ) : Type 0 where
   pieces : List Piece
   text : List ℕ
   came : Came pieces text
   many : length pieces ≡ turns
+  left : Consumes before after text
   is : state s t ≡ fed (state (Between 0) fresh) text
 
-pub going_start : (fresh : List ℤ) {s : Scan} → s ≡ Between 0 → Going fresh s fresh 0
+pub going_start : (before : Option (List ℕ)) (fresh : List ℤ) {s : Scan} → s ≡ Between 0 → Going before fresh before s fresh 0
 unfolding fed
-going_start fresh e =
-    record { pieces = []; text = []; came = nothing; many = refl; is = ap (λ (x : Scan). state x fresh) e }
+going_start before fresh e =
+    record { pieces = []; text = []; came = nothing; many = refl; left = go before; is = ap (λ (x : Scan). state x fresh) e }
+  where
+    go : (before : Option (List ℕ)) → Consumes before before []
+    go None = tt
+    go (Some xs) = refl
 
-module _ {fresh : List ℤ} {s : Scan} {t : List ℤ} {turns : ℕ} (g : Going fresh s t turns) where
+module _ {before : Option (List ℕ)} {fresh : List ℤ} {after : Option (List ℕ)} {s : Scan} {t : List ℤ} {turns : ℕ} (g : Going before fresh after s t turns) where
   -- All turns are used up.
-  pub going_over : 2 ^ 64 - 1 ≤ turns → Heard Malformed t
+  pub going_over : 2 ^ 64 - 1 ≤ turns → Heard before Malformed t
   unfolding text_of
   going_over e =
+      let never : text_of g.pieces ≡ malformed = ap text_of (sym (append-nil g.pieces)) ∙ came_text g.came [] in
       record {
         pieces = g.pieces;
         all = inr (omega (arith, g.many));
-        says = ap (λ (p : Parsed (List ℕ)). on p job_text) (sym (ap text_of (sym (append-nil g.pieces)) ∙ came_text g.came []));
+        whole = whole_never before g.pieces never;
+        says = ap (λ (p : Parsed (List ℕ)). on p job_text) (sym never);
       }
 
-  module _ {r : Taken} {u : List ℤ} (k : Took s t r u) where
-    further : (p : Piece) → goes_on p ≡ true → state r.scan u ≡ taken (state s t) p → Going fresh r.scan u (turns + 1)
-    further failed m e = absurd (true_is m)
-    further (gave []) m e = absurd (true_is m)
-    further (gave (b ∷ bytes)) m e =
+  module _ {later : Option (List ℕ)} {r : Taken} {u : List ℤ} (k : Took after later s t r u) where
+    further : (p : Piece) → goes_on p ≡ true → Gives after later p → state r.scan u ≡ taken (state s t) p → Going before fresh later r.scan u (turns + 1)
+    further failed m v e = absurd (true_is m)
+    further (gave []) m v e = absurd (true_is m)
+    further (gave (b ∷ bytes)) m v e =
         record {
           pieces = g.pieces ++ (gave (b ∷ bytes) ∷ []);
           text = g.text ++ (b ∷ bytes);
           came = more b bytes g.came;
           many = omega (arith, g.many, length-append g.pieces (gave (b ∷ bytes) ∷ []));
+          left = consumes_more before after later g.text (b ∷ bytes) g.left v.0;
           is = e ∙ ap (λ (x : State). fed x (b ∷ bytes)) g.is ∙ sym (fed_append (state (Between 0) fresh) g.text (b ∷ bytes));
         }
 
-    pub going_on : r.more ≡ true → Going fresh r.scan u (turns + 1)
-    going_on m = further k.piece (sym k.more ∙ m) k.scan
+    pub going_on : r.more ≡ true → Going before fresh later r.scan u (turns + 1)
+    going_on m = further k.piece (sym k.more ∙ m) k.gives k.scan
 
-    last : 2198 ≤ length fresh → (p : Piece) → goes_on p ≡ false → state r.scan u ≡ taken (state s t) p → Heard r.scan u
+    last : 2198 ≤ length fresh → (p : Piece) → goes_on p ≡ false → Gives after later p → state r.scan u ≡ taken (state s t) p → Heard before r.scan u
     unfolding text_of fed
-    last l failed m e =
+    last l failed m v e =
+        let never : text_of (g.pieces ++ (failed ∷ [])) ≡ malformed = came_text g.came (failed ∷ []) in
         record {
           pieces = g.pieces ++ (failed ∷ []);
           all = inl (came_ended g.came broke_off);
-          says = ap finished e ∙ ap (λ (p : Parsed (List ℕ)). on p job_text) (sym (came_text g.came (failed ∷ [])));
+          whole = whole_never before (g.pieces ++ (failed ∷ [])) never;
+          says = ap finished e ∙ ap (λ (p : Parsed (List ℕ)). on p job_text) (sym never);
         }
-    last l (gave []) m e =
+    last l (gave []) m v e =
+        let ends : text_of (g.pieces ++ (gave [] ∷ [])) ≡ parsed (g.text ++ []) = came_text g.came (gave [] ∷ []) in
         record {
           pieces = g.pieces ++ (gave [] ∷ []);
           all = inl (came_ended g.came came_to_end);
+          whole = whole_end before later (g.pieces ++ (gave [] ∷ [])) (g.text ++ []) (consumes_more before after later g.text [] g.left v.0) (v.1 refl) ends;
           says =
               ap finished (e ∙ g.is)
               ∙ reads fresh g.text l
               ∙ ap job_text (sym (append-nil g.text))
-              ∙ ap (λ (p : Parsed (List ℕ)). on p job_text) (sym (came_text g.came (gave [] ∷ [])));
+              ∙ ap (λ (p : Parsed (List ℕ)). on p job_text) (sym ends);
         }
-    last l (gave (b ∷ bytes)) m e = absurd (omega (arith, ltb-false 0 (length (b ∷ bytes)) m))
+    last l (gave (b ∷ bytes)) m v e = absurd (omega (arith, ltb-false 0 (length (b ∷ bytes)) m))
 
-    pub going_end : 2198 ≤ length fresh → r.more ≡ false → Heard r.scan u
-    going_end l m = last l k.piece (sym k.more ∙ m) k.scan
+    pub going_end : 2198 ≤ length fresh → r.more ≡ false → Heard before r.scan u
+    going_end l m = last l k.piece (sym k.more ∙ m) k.gives k.scan

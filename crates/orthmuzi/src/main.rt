@@ -1,8 +1,10 @@
 // The program: a job read from standard input, planned, and the answer printed on standard output.
 // Only `read_some`, `tell` and `complain` touch the outside. What is read goes through `scanner::take`, and what is written is what `tell` asks for.
+// They take any reader and any writers, so that `run` can say what becomes of the bytes of those whose bytes are known; `main` lends the three standard ones, whose are not.
 #![tactic(auto)]
 
-ghost use Rattle.std.specs.Prelude.{◌≡◌, ◌≤◌, length};
+ghost use Rattle.std.specs.Prelude.{◌≡◌, ◌≤◌, length, IsTrue};
+ghost use Rattle.std.specs.Io.KnownBytes.{Appends};
 ghost use Rattle.model.specs.Text.{parsed};
 ghost use Rattle.model.specs.Print.{printed};
 ghost use Rattle.model.specs.Program.{answered, Told};
@@ -11,7 +13,7 @@ ghost use Rattle.propagator.specs.Plans.{reply_of};
 ghost use Rattle.scanner.specs.Scanner.{state, finished};
 ghost use Rattle.scanner.specs.Layout.{job_in, Room};
 ghost use Rattle.printer.specs.Buffer.{Printed};
-ghost use Rattle.orthmuzi.specs.Hearing.{Took, Heard};
+ghost use Rattle.orthmuzi.specs.Hearing.{Took, Heard, Wrote};
 
 use propagator::Answer;
 use propagator::plans::plan;
@@ -99,9 +101,10 @@ fn complain(errors: &mut impl Write, line: &[u8]) {
     let _ = errors.write_all(line);
 }
 
-// Reads once, and takes what came.
-fn read_some(input: &mut impl Read, errors: &mut impl Write, s: Scan, table: &mut [i32]) -> Taken
-    ensures { Took s table.old result table.new }
+// Reads once, and takes what came, all of it.
+// It rules out a program that loses the rest of a piece (piece_cut_short).
+fn read_some<R: Read>(input: &mut R, errors: &mut impl Write, s: Scan, table: &mut [i32]) -> Taken
+    ensures { Took (R.remaining input.old) (R.remaining input.new) s table.old result table.new }
 {
     let mut piece = [0u8; 65536];
     let got = match input.read(&mut piece) {
@@ -118,9 +121,9 @@ fn read_some(input: &mut impl Read, errors: &mut impl Write, s: Scan, table: &mu
 }
 
 // Reads to the end of the input. A proved loop has to end, and nothing says that the input does: it takes no more turns than a number that no run uses up.
-fn read_all(input: &mut impl Read, errors: &mut impl Write, table: &mut [i32]) -> Scan
+fn read_all<R: Read>(input: &mut R, errors: &mut impl Write, table: &mut [i32]) -> Scan
     requires { 2198 ≤ length table.old }
-    ensures { Heard result table.new }
+    ensures { Heard (R.remaining input.old) result table.new }
 {
     let mut scan = scanner::start();
     for _ in 0..u64::MAX {
@@ -133,20 +136,30 @@ fn read_all(input: &mut impl Read, errors: &mut impl Write, table: &mut [i32]) -
     Scan::Malformed
 }
 
-// Writes the answer, which has to be that of the text read.
-// It rules out a program that writes nothing (nothing_told) and one that writes another answer (conflict_as_settled, refused_as_21, room_too_small).
-fn tell(output: &mut impl Write, errors: &mut impl Write, answer: &[u8])
+// Writes the answer, which has to be that of the text read, and says whether all of it was written.
+// It rules out a program that writes nothing (nothing_told), one that calls a part the whole (part_told) and one that writes another answer (conflict_as_settled, refused_as_21, room_too_small).
+fn tell<W: Write>(output: &mut W, errors: &mut impl Write, answer: &[u8]) -> bool
     requires { Told answer.now }
+    ensures { IsTrue result → Appends (W.contents output.old) (W.contents output.new) answer.now }
 {
-    if output.write_all(answer).is_err() {
+    let is_written = output.write_all(answer).is_ok();
+    if !is_written {
         complain(errors, b"orthmuzi: the answer could not be written\n");
     }
+    is_written
+}
+
+// Reads, plans and writes; says whether the answer was written. It is then that of the whole text, where the reader's bytes are known and no read failed.
+fn run<R: Read, W: Write>(input: &mut R, output: &mut W, errors: &mut impl Write) -> bool
+    ensures { IsTrue result → Wrote (R.remaining input.old) (W.contents output.old) (W.contents output.new) }
+{
+    let mut table = [0i32; MOST_NUMBERS];
+    let mut out = [0u8; 8192];
+    let s = read_all(input, errors, &mut table);
+    let n = answer(s, &mut table, &mut out);
+    tell(output, errors, &out[..n])
 }
 
 fn main(rt: HostRuntime) {
-    let mut table = [0i32; MOST_NUMBERS];
-    let mut out = [0u8; 8192];
-    let s = read_all(&mut rt.stdin(), &mut rt.stderr(), &mut table);
-    let n = answer(s, &mut table, &mut out);
-    tell(&mut rt.stdout(), &mut rt.stderr(), &out[..n]);
+    run(&mut rt.stdin(), &mut rt.stdout(), &mut rt.stderr());
 }

@@ -5,7 +5,7 @@ use Rattle.orthmuzi.proofs.Listening.{going_start, going_on, going_end, going_ov
 use Rattle.orthmuzi.proofs.read_all.Goals as goal
 
 pub loop-init : goal.loop-init
-loop-init g c = going_start _ c.start-scan.ensures
+loop-init g c = going_start _ _ c.start-scan.ensures
 
 pub returns-then-not-taken : goal.returns-then-not-taken
 returns-then-not-taken g c = going_end c.loop.invariant c.read_some-taken.ensures c.requires (not-true _ c.if-not-taken.true)

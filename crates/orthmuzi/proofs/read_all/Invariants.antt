@@ -3,4 +3,4 @@ use Rattle.orthmuzi.proofs.Listening.{Going}
 use Rattle.orthmuzi.proofs.read_all.Given as goal
 
 abbrev pub invariant-loop : goal.invariant-loop
-invariant-loop g l = Going l.initial.table l.scan l.table l.counter
+invariant-loop g l = Going (g.R.Read.remaining l.initial.input) l.initial.table (g.R.Read.remaining l.input) l.scan l.table l.counter
