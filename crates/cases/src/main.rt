@@ -16,14 +16,12 @@ fn find(s: &[u8], from: usize, b: u8) -> usize
     requires { from ≤ length s.now }
     ensures { (from ≤ result) × (result ≤ length s.now) }
 {
-    let mut i = from;
-    while i < s.len() {
+    for i in from..s.len() {
         if s[i] == b {
             return i;
         }
-        i += 1;
     }
-    i
+    s.len()
 }
 
 // A length; a negative word is longer than any table.
@@ -37,11 +35,8 @@ fn size(x: i32) -> usize {
 fn copy(from: &[i32], start: usize, to: &mut [i32])
     requires { start + length to.old ≤ length from.now }
 {
-    let mut i: usize = 0;
-    while i < to.len() {
-        to[i] = from[start + i];
-        i += 1;
-    }
+    let end = start + to.len();
+    to.copy_from_slice(&from[start..end]);
 }
 
 // The call itself. What the planner writes is printed as the list, then what it leaves as it was, then what the reader says of that list.

@@ -19,24 +19,17 @@ fn word(rt: &impl Print, x: i32) {
 // A title and words, on one line.
 pub fn line(rt: &impl Print, title: &[u8], words: &[i32]) {
     say(rt, title);
-    let mut i: usize = 0;
-    while i < words.len() {
-        word(rt, words[i]);
-        i += 1;
+    for x in words {
+        word(rt, *x);
     }
     say(rt, b"\n");
 }
 
 // Each event's number and five words, a line each.
 pub fn windows(rt: &impl Print, table: &[i32]) {
-    let mut left = table.len();
-    let mut y: usize = 0;
-    while 5 <= left {
-        let at = table.len() - left;
+    for (y, event) in table.chunks_exact(5).enumerate() {
         let _ = print!(rt; "{y}");
-        line(rt, b"", &table[at..at + 5]);
-        left -= 5;
-        y += 1;
+        line(rt, b"", event);
     }
 }
 

@@ -78,15 +78,12 @@ pub fn fill(
     table: &mut [i32],
 ) -> Filled {
     let mut input = from;
-    let mut i: usize = 0;
-    while i < table.len() {
-        let found = take_word(stdin, piece, input);
-        let Next::Word(w, after) = found else {
+    for x in table {
+        let Next::Word(w, after) = take_word(stdin, piece, input) else {
             return Filled::Cut;
         };
-        table[i] = w;
+        *x = w;
         input = after;
-        i += 1;
     }
     Filled::All(input)
 }

@@ -22,10 +22,8 @@ pub fn text(rt: &impl Print, out: &mut [u8; 65536], at: usize, s: &[u8]) -> usiz
     ensures { result ≤ 65536 }
 {
     let mut o = at;
-    let mut i: usize = 0;
-    while i < s.len() {
-        o = put(rt, out, o, s[i]);
-        i += 1;
+    for b in s {
+        o = put(rt, out, o, *b);
     }
     o
 }

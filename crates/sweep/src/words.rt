@@ -51,10 +51,8 @@ pub fn checksum(words: &[i32]) -> u64
     ensures { result ≡ checksum-of words.now }
 {
     let mut sum: u64 = 2166136261;
-    let mut i: usize = 0;
-    while i < words.len() {
-        sum = mix(sum, words[i]);
-        i += 1;
+    for x in words {
+        sum = mix(sum, *x);
     }
     sum
 }

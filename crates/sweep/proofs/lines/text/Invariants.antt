@@ -1,9 +1,6 @@
--- The place stays within the piece. The measure is the bytes that are left.
-use Rattle.std.proofs.Common.{length, ◌-◌, ◌≤◌}
+-- The place stays within the piece.
+use Rattle.std.proofs.Common.{◌≤◌}
 use Rattle.sweep.proofs.lines.text.Given as goal
 
-abbrev pub invariant-loop-i : goal.invariant-loop-i
-invariant-loop-i g l = (l.i ≤ length l.s) × (l.o ≤ 65536)
-
-abbrev pub decreases-loop-i : goal.decreases-loop-i
-decreases-loop-i g l = length l.s - l.i
+abbrev pub invariant-loop-b : goal.invariant-loop-b
+invariant-loop-b g l = l.o ≤ 65536

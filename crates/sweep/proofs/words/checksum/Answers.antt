@@ -13,8 +13,8 @@ folded_more : (sum i : ℕ) (words : List ℤ) → i < length words → folded s
 unfolding folded
 folded_more sum i words h = rw (drop_more words i (pos 0) h)
 
-pub loop-i-preserved : goal.loop-i-preserved
-loop-i-preserved c = grind (arith, folded_more c.loop-i.sum c.loop-i.i c.args.words.now)
+pub loop-x-preserved : goal.loop-x-preserved
+loop-x-preserved c = grind (arith, folded_more c.loop-x.sum c.loop-x.x-index c.args.words.now)
 
 pub returns : goal.returns
-returns c = grind (arith, folded_end c.loop-i.sum c.loop-i.i c.args.words.now)
+returns c = grind (arith, folded_end c.loop-x.sum c.loop-x.x-index c.args.words.now)
