@@ -11,7 +11,7 @@ use Rattle.integers.proofs.Tests.{true_is, and_out}
 use Rattle.model.specs.Job.{End, opposite, meets, slot, Windows, windows, Job, Schedule, value, Inside, Legal, events, widest}
 use Rattle.model.specs.Standing.{Sane, Standing}
 use Rattle.model.specs.Rules.{own_end, bound, idle, narrows, fails, effect, is_narrowing}
-use Rattle.model.specs.Slips.{Explanation, slip_words, slip_length, at, premise_count, slip_at, rule_of, target_of, log_words, last_begins}
+use Rattle.model.specs.Slips.{Explanation, slip_words, slip_length, premise_count, slip_at, rule_of, target_of, log_words, last_begins}
 use Rattle.model.specs.Agenda.{Each}
 use Rattle.model.specs.Questions.{Check, pass, refuse, ask}
 use Rattle.model.specs.Reader.{whole, reading, names, same_end, all_true, narrowed, is_conflict, gives, fits_there, slip_questions, applied, Read, read_from}

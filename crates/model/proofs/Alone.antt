@@ -4,21 +4,20 @@ use mathlib.Core.Path.{◌≡◌, refl, sym, ap, ap₂, subst, ◌∙◌}
 use mathlib.Core.Bool.{Bool, true, false, not, cond, ◌&&◌, ◌||◌}
 use mathlib.Core.List.{List, [], ◌∷◌, ◌++◌}
 use mathlib.Core.Logic.{◌⊎◌, inl, inr}
-use Prim.Native.Nat.{ℕ, zero, suc, ◌+◌, ◌*◌, ◌/◌, ◌%◌, ◌<◌, ◌≤◌}
+use Prim.Native.Nat.{ℕ, zero, suc, ◌+◌, ◌*◌, ◌/◌, ◌%◌, ◌<◌}
 use native.Mathlib.Decide.{ℕ_discrete}
 use native.Mathlib.Omega.{arith}
 use lib.Dec.{T, eqb, eqb_refl, eqb→eq}
-use lib.IntN.{ℤ, pos, neg_ℤ, ◌-ℤ◌}
+use lib.IntN.{ℤ, pos, ◌-ℤ◌}
 use lib.ListN.{get_or, length, set, length-append, length-set, get_or-append}
 use lib.Seq.{get_or-append-add, get_or-set_other, ext_get_or}
-use Rattle.integers.specs.Range.{eq_z}
 use Rattle.integers.proofs.Tests.{is_true, true_is}
-use Rattle.model.specs.Job.{End, t_min, t_max, h_min, h_max, opposite, meets, word, slot, Windows, windows, Reservoir, Job, events, sent, lags, lag_a, lag_b, lag_d, home, cage, cages, cage_of, cage_word, counts_later}
+use Rattle.model.specs.Job.{End, t_min, t_max, h_min, h_max, opposite, meets, slot, Windows, windows, Reservoir, Job, events, sent, lags, lag_a, lag_b, home, cage, cages, cage_of, cage_word, counts_later}
 use Rattle.model.specs.Standing.{Sane}
-use Rattle.model.specs.View.{side, side_value, side_limit, side_end, View, view, view_of, here, shown, seen}
+use Rattle.model.specs.View.{side, side_value, side_limit, side_end, view, here, shown, seen}
 use Rattle.model.specs.Levels.{e_min, e_max, stands, most}
 use Rattle.model.specs.Rules.{Finding, nothing, clash, bound, Family, level, time, height, Rule, lag_upper, lag_lower, reservoir, rule, family_rule, family_end, side_finding, finding, own_end, Effect, idle, narrows, fails, effect, failed, given_if, targeted, target_fits, subjects}
-use Rattle.model.specs.Facts.{lag_cites, quotes, quoted, family_cites, family_says, cites, says, latest, quotes_top, drops}
+use Rattle.model.specs.Facts.{lag_cites, quotes, quoted, cites, says, latest, quotes_top, drops}
 use Rattle.model.specs.Slips.{Explanation, premise_list, explanation, concluded_kind, concluded_value, slip_words, rule_of, subject_of, target_of}
 use Rattle.model.specs.Agenda.{Attempt, try, Each, each_of, lag_attempts, three_attempts, event_attempts}
 use Rattle.model.specs.Rounds.{State, Status, running, ended, conflict, stopped, fits, recorded, acted, attempt, made}

@@ -1,8 +1,8 @@
 -- A neutral event counts nowhere, is no target and is not quoted, whether "before" or "by" is meant of it: two views that tell the others alike give the same levels, findings and facts.
 -- Assumes nothing.
 use mathlib.Core.Path.{◌≡◌, refl, sym, ap, ap₂, subst, ◌∙◌}
-use mathlib.Core.Bool.{Bool, true, false, not, cond, ◌&&◌, ◌||◌}
-use mathlib.Core.List.{List, [], ◌∷◌, ◌++◌}
+use mathlib.Core.Bool.{Bool, true, false, not, cond, ◌&&◌}
+use mathlib.Core.List.{◌++◌}
 use mathlib.Core.Logic.{◌⊎◌, inl, inr}
 use Prim.Native.Nat.{ℕ, zero, suc, ◌<◌, ◌≤◌}
 use native.Mathlib.Omega.{arith}
@@ -12,10 +12,10 @@ use lib.Signed.{le_z, lt_z}
 use Rattle.integers.proofs.Sums.{sum_ext}
 use Rattle.model.specs.Job.{End, t_min, t_max, h_min, h_max, Windows, ahead, any}
 use Rattle.model.specs.View.{View}
-use Rattle.model.specs.Levels.{Place, sure, possible, never, placed, place, gain, gains, most_in, most, sure_gain, sure_part, e_min, e_max, stands}
-use Rattle.model.specs.Rules.{Finding, clash, bound, given_if, counts_from, earlier, possible_producer, reached_at, earliest, targeted, Family, level, time, height, family_rule}
+use Rattle.model.specs.Levels.{Place, sure, possible, never, placed, place, gain, gains, most_in, sure_gain, sure_part, e_min, e_max, stands}
+use Rattle.model.specs.Rules.{clash, bound, given_if, counts_from, earlier, possible_producer, reached_at, earliest, targeted, Family, level, time, height, family_rule}
 use Rattle.model.specs.Facts.{left_out, surely_consumed, late, early, cites, says, first_late, last_early}
-use Rattle.model.specs.Slips.{Premise, quote, premise_list}
+use Rattle.model.specs.Slips.{quote, premise_list}
 use Rattle.model.proofs.Agree.{any_agree, with_before}
 
 -- ---- an amount of 0

@@ -16,7 +16,7 @@ use Rattle.model.specs.Rules.{rule, own_end, finding, Effect, idle, narrows, fai
 use Rattle.model.specs.Slips.{Explanation, slip_words, explanation, trailer, at, log_words, last_begins}
 use Rattle.model.specs.Rounds.{Verdict, settled, conflict, stopped, still_open, State, Run}
 use Rattle.model.specs.Questions.{pass, questions}
-use Rattle.model.specs.Planner.{done, Outcome, written, planned, plan}
+use Rattle.model.specs.Planner.{done, Outcome, planned, plan}
 use Rattle.model.specs.Reader.{slip, reading, names, all_true, narrowed, gives, is_conflict, fits_there, slip_questions, applied, Read, read_from, stop_of, counted, marked, ends_right, read_all, accepted, judged, check}
 use Rattle.model.specs.Demand.{listed, echoed, Replay}
 use Rattle.model.proofs.Questions.{then_in, ask_in, asked, asked_again, limit_asked}

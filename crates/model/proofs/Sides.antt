@@ -1,10 +1,10 @@
 -- What a rule sees: the mirror turns bounds, windows and signs, and twice is nothing; windows seen in a view stand to one another as those that they show. So what is proved of views is proved of rules 3 to 14.
 -- Assumes nothing.
 use mathlib.Core.Path.{◌≡◌, refl, sym, subst}
-use mathlib.Core.Bool.{Bool, true, false, cond, ◌&&◌, ◌||◌}
+use mathlib.Core.Bool.{Bool, true, false, cond}
 use Prim.Native.Nat.{ℕ, ◌<◌}
 use lib.Dec.{T}
-use lib.IntN.{ℤ, neg_ℤ, neg_ℤ-neg_ℤ, pos, ◌+ℤ◌}
+use lib.IntN.{ℤ, neg_ℤ, neg_ℤ-neg_ℤ, pos}
 use lib.Signed.{le_z, ◌≤ℤ◌, ◌<ℤ◌}
 use Rattle.integers.proofs.Linear.{ints, neg_law}
 use Rattle.integers.proofs.Tests.{same_test}

@@ -1,5 +1,5 @@
 -- Document 01, "The fourteen rules": what each rule gives on windows, and what that does to the target's window.
-use Rattle.std.specs.Prelude.{Bool, true, false, cond, ◌&&◌, ◌||◌, List, [], ◌∷◌, ℕ, zero, suc, ◌-◌, ◌+◌, eqb, ℤ, pos, ◌+ℤ◌, ◌-ℤ◌, neg_ℤ, get_or}
+use Rattle.std.specs.Prelude.{Bool, true, false, cond, ◌&&◌, ◌||◌, List, [], ◌∷◌, ℕ, zero, suc, ◌-◌, eqb, ℤ, pos, ◌+ℤ◌, ◌-ℤ◌, neg_ℤ, get_or}
 use Rattle.std.specs.Int.Signed.{le_z, lt_z}
 use Rattle.model.specs.Job.{End, t_min, t_max, h_min, h_max, opposite, meets, Windows, produces, consumes, Job, events, lags, lag_a, lag_b, lag_d, set_least, set_most, in_set, sets}
 use Rattle.model.specs.View.{side_value, side_end, View, view, seen, look}

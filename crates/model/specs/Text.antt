@@ -3,7 +3,6 @@
 use Rattle.std.specs.Prelude.{Bool, true, false, cond, ◌&&◌, ◌||◌, List, [], ◌∷◌, ◌++◌, ℕ, zero, suc, ◌+◌, ◌*◌, ◌-◌, eqb, leb, ℤ, pos, negsuc, neg_ℤ, nat_abs, length, take, drop}
 use Prim.Native.Char.{code}
 use Prim.Native.String.{String}
-use Prim.Native.String
 use Rattle.model.specs.Job.{Job}
 use Rattle.model.specs.Questions.{in_range}
 
