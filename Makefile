@@ -8,13 +8,13 @@ JOB ?= examples/worked.txt
 
 .PHONY: run gate bench prove format
 run:
-	rt check orthmuzi > /dev/null
-	target/bin/orthmuzi < $(JOB)
+	cd crates/orthmuzi && rt run < stdin > /dev/null
+	crates/orthmuzi/out/orthmuzi < $(JOB)
 gate:
 	bash .ci/run
 bench:
 	bash bench/run
 prove:
-	rt check
+	rt all check
 format:
-	rt fmt
+	for crate in crates/*/; do (cd $$crate && rt fmt); done
