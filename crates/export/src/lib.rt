@@ -8,8 +8,8 @@ ghost use Rattle.std.specs.Prelude.{◌≡◌, pos};
 ghost use Rattle.tables.specs.Job.{call};
 ghost use Rattle.model.specs.Planner.{plan};
 ghost use Rattle.model.specs.Reader.{check};
-ghost use Rattle.propagator.specs.Plans.{reply_of as answer-reply};
-ghost use Rattle.checker.specs.Judgement.{reply_of as judgement-reply};
+ghost use Rattle.propagator.specs.Plans.{reply_of as answer_reply};
+ghost use Rattle.checker.specs.Judgement.{reply_of as judgement_reply};
 ghost use Rattle.export.specs.Words.{numbers_of, taken, told, Small};
 
 use checker::{Judgement, check};
@@ -56,7 +56,7 @@ fn refused(number: usize, place: usize) -> Numbers
 
 // The planner's answer.
 fn planned(a: Answer) -> Numbers
-    ensures { result ≡ numbers_of (answer-reply a) }
+    ensures { result ≡ numbers_of (answer_reply a) }
 {
     match a {
         Answer::Settled(c) => done(0, c),
@@ -68,7 +68,7 @@ fn planned(a: Answer) -> Numbers
 
 // The reader's answer: no counts.
 fn judged(v: Judgement) -> Numbers
-    ensures { result ≡ numbers_of (judgement-reply v) }
+    ensures { result ≡ numbers_of (judgement_reply v) }
 {
     let none = Counts {
         slips: 0,

@@ -14,8 +14,8 @@ use Rattle.model.proofs.Questions.{asked, limit_asked}
 use Rattle.model.proofs.Refusals.{plan_passed, plan_lengths}
 use Rattle.model.specs.Demand.{echoed, Demand3}
 use Rattle.model.proofs.DemandProof.{demand3, planner_keeps, planner_clash}
-use Rattle.propagator.specs.Plans.{reply_of as answer-of}
-use Rattle.checker.specs.Judgement.{reply_of as judgement-of}
+use Rattle.propagator.specs.Plans.{reply_of as answer_of}
+use Rattle.checker.specs.Judgement.{reply_of as judgement_of}
 use Rattle.propagator.specs.declared.Answer.{Answer}
 use Rattle.propagator.specs.declared.Answer.TheVariants.{Settled, Conflict, Stopped, Refused}
 use Rattle.questions.specs.declared.Refusal.{Refusal}
@@ -29,7 +29,7 @@ pub record Listing (a : Answer) (len : ℕ) : Type 0 where
   pub verdict : Verdict
   pub slips : ℕ
   pub rounds : ℕ
-  pub is : answer-of a ≡ done verdict slips rounds len
+  pub is : answer_of a ≡ done verdict slips rounds len
 
 no_list : {A : Type 0} (r : Refusal) (len : ℕ) → Nothing r ≡ Listed len → A
 no_list r len e = absurd (let z : ◌≡◌ {A = ℕ} 0 1 = cc in omega arith)
@@ -43,7 +43,7 @@ listing (Conflict c) len e = record { verdict = conflict; slips = c.slips; round
 listing (Stopped c) len e = record { verdict = stopped; slips = c.slips; rounds = c.rounds; is = let f : c.length ≡ len = cc in ap (done stopped c.slips c.rounds) f }
 listing (Refused r) len e = no_list r len e
 
-pub refusing : (a : Answer) (r : Refusal) → written_of a ≡ Nothing r → answer-of a ≡ refused r.number r.place
+pub refusing : (a : Answer) (r : Refusal) → written_of a ≡ Nothing r → answer_of a ≡ refused r.number r.place
 refusing (Settled c) r e = no_refusal r c.length e
 refusing (Conflict c) r e = no_refusal r c.length e
 refusing (Stopped c) r e = no_refusal r c.length e
@@ -53,11 +53,11 @@ not_both : {A : Type 0} (v : Verdict) (a b c n p : ℕ) → done v a b c ≡ ref
 not_both v a b c n p e = absurd (let z : ◌≡◌ {A = ℕ} 0 1 = cc in omega arith)
 
 module _ (j : Job) (limit : ℤ) (buffer : List ℤ) (a : Answer) {table' buffer' : List ℤ}
-    (ea : answer-of a ≡ (plan j limit buffer).reply) (et : table' ≡ (plan j limit buffer).table) (eb : buffer' ≡ (plan j limit buffer).buffer) where
+    (ea : answer_of a ≡ (plan j limit buffer).reply) (et : table' ≡ (plan j limit buffer).table) (eb : buffer' ≡ (plan j limit buffer).buffer) where
   abbrev theorem : Demand3 j
   theorem = demand3 j
 
-  pub assured_unread : (r : Refusal) → written_of a ≡ Nothing r → (c : Checked) → c.answer ≡ a → judgement-of c.judgement ≡ refused r.number r.place → Assured j limit buffer table' buffer' c
+  pub assured_unread : (r : Refusal) → written_of a ≡ Nothing r → (c : Checked) → c.answer ≡ a → judgement_of c.judgement ≡ refused r.number r.place → Assured j limit buffer table' buffer' c
   assured_unread r w c f g =
       let i = refusing a r w in
       let u = theorem.planner_refuses limit buffer r.number r.place (sym ea ∙ i) in
@@ -65,8 +65,8 @@ module _ (j : Job) (limit : ℤ) (buffer : List ℤ) (a : Answer) {table' buffer
         answer = rw f ea;
         windows_left = et;
         slips_left = eb;
-        untouched = λ n p k. (et ∙ u.same_table, eb ∙ u.same_buffer, g ∙ sym i ∙ sym (ap answer-of f) ∙ k);
-        taken = λ v s m len k. not_both v s m len r.number r.place (sym k ∙ ap answer-of f ∙ i);
+        untouched = λ n p k. (et ∙ u.same_table, eb ∙ u.same_buffer, g ∙ sym i ∙ sym (ap answer_of f) ∙ k);
+        taken = λ v s m len k. not_both v s m len r.number r.place (sym k ∙ ap answer_of f ∙ i);
       }
 
   module _ (len : ℕ) (w : written_of a ≡ Listed len) where
@@ -90,7 +90,7 @@ module _ (j : Job) (limit : ℤ) (buffer : List ℤ) (a : Answer) {table' buffer
         let n = ap length eb in
         omega arith
 
-    pub assured_read : (v' : Said) → judgement-of v' ≡ (check j (take len buffer')).reply → Assured j limit buffer table' buffer' (record { answer = a; judgement = v' })
+    pub assured_read : (v' : Said) → judgement_of v' ≡ (check j (take len buffer')).reply → Assured j limit buffer table' buffer' (record { answer = a; judgement = v' })
     assured_read v' g =
         record {
           answer = ea;
@@ -107,7 +107,7 @@ module _ (j : Job) (limit : ℤ) (buffer : List ℤ) (a : Answer) {table' buffer
             let d : (plan j limit buffer).reply ≡ done v s m n = e ∙ k in
             let r = theorem.complete limit buffer v s m n d in
             let i : take len buffer' ≡ take n (plan j limit buffer).buffer = rw (eb, y) in
-            let reply : judgement-of v' ≡ done (echoed v) 0 0 0 = g ∙ rw i r.reply in
+            let reply : judgement_of v' ≡ done (echoed v) 0 0 0 = g ∙ rw i r.reply in
             record {
               read = reply;
               left = rw (eb, et) r.same_table;

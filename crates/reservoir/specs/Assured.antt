@@ -5,8 +5,8 @@ use Rattle.model.specs.Rounds.{conflict, Verdict}
 use Rattle.model.specs.Planner.{refused, done, plan}
 use Rattle.model.specs.Reader.{check}
 use Rattle.model.specs.Demand.{echoed, LegalPlan, Acceptance}
-use Rattle.propagator.specs.Plans.{reply_of as answer-of}
-use Rattle.checker.specs.Judgement.{reply_of as judgement-of}
+use Rattle.propagator.specs.Plans.{reply_of as answer_of}
+use Rattle.checker.specs.Judgement.{reply_of as judgement_of}
 use Rattle.propagator.specs.declared.Answer.{Answer}
 use Rattle.propagator.specs.declared.Answer.TheVariants.{Settled, Conflict, Stopped, Refused}
 use Rattle.reservoir.specs.declared.Checked.{Checked}
@@ -28,7 +28,7 @@ pub record Copied (table copy : List ℤ) : Type 0 where
 -- A call of the planner that was taken, with v for its verdict and len words written.
 pub record Taken (j : Job) (table' buffer' : List ℤ) (v : Verdict) (len : ℕ) (r : Checked) : Type 0 where
   -- The reader accepts the list as written, from the windows as first sent in, and says conflict exactly when the planner did.
-  pub read : judgement-of r.judgement ≡ done (echoed v) 0 0 0
+  pub read : judgement_of r.judgement ≡ done (echoed v) 0 0 0
   -- It leaves every word of the window table as the planner left it.
   pub left : (check j (take len buffer')).table ≡ table'
   -- What acceptance means, of every plan and every slip: `Acceptance` of Demand.
@@ -40,9 +40,9 @@ pub record Taken (j : Job) (table' buffer' : List ℤ) (v : Verdict) (len : ℕ)
 -- Demands 1 to 3 of one call: its job, its round limit, the buffer at entry, then table and buffer at exit.
 pub record Assured (j : Job) (limit : ℤ) (buffer table' buffer' : List ℤ) (r : Checked) : Type 0 where
   -- Answer, windows and slips are those of document 01.
-  pub answer : answer-of r.answer ≡ (plan j limit buffer).reply
+  pub answer : answer_of r.answer ≡ (plan j limit buffer).reply
   pub windows_left : table' ≡ (plan j limit buffer).table
   pub slips_left : buffer' ≡ (plan j limit buffer).buffer
   -- A refused call changes no lent word.
-  pub untouched : (number place : ℕ) → answer-of r.answer ≡ refused number place → (table' ≡ j.window_table) × (buffer' ≡ buffer) × (judgement-of r.judgement ≡ refused number place)
-  pub taken : (v : Verdict) (slips rounds len : ℕ) → answer-of r.answer ≡ done v slips rounds len → Taken j table' buffer' v len r
+  pub untouched : (number place : ℕ) → answer_of r.answer ≡ refused number place → (table' ≡ j.window_table) × (buffer' ≡ buffer) × (judgement_of r.judgement ≡ refused number place)
+  pub taken : (v : Verdict) (slips rounds len : ℕ) → answer_of r.answer ≡ done v slips rounds len → Taken j table' buffer' v len r

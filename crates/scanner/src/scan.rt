@@ -1,7 +1,7 @@
 // The numbers of a text, read byte by byte in pieces of any length.
 ghost use Rattle.std.specs.Prelude.{◌≡◌, ◌&&◌, ◌+◌, ◌*◌, ◌-◌, ◌<◌};
-ghost use Rattle.model.specs.Text.{blank, digit as digit-byte};
-ghost use Rattle.scanner.specs.Scanner.{state, sized, kept, closed, ended, negated, grown, valued as valued-digits, step as stepped, fed};
+ghost use Rattle.model.specs.Text.{blank, digit as digit_byte};
+ghost use Rattle.scanner.specs.Scanner.{state, sized, kept, closed, ended, negated, grown, valued as valued_digits, step as stepped, fed};
 
 // Where a text stands after some of its bytes.
 #[derive(Clone, Copy)]
@@ -46,7 +46,7 @@ fn is_blank(b: u8) -> bool
 }
 
 fn is_digit(b: u8) -> bool
-    ensures { result ≡ digit-byte b }
+    ensures { result ≡ digit_byte b }
 {
     b >= 48 && b <= 57
 }
@@ -111,7 +111,7 @@ fn negate(s: Scan) -> Scan
 }
 
 fn valued(n: usize, negative: bool, v: u32) -> Scan
-    ensures { result ≡ valued-digits n negative v }
+    ensures { result ≡ valued_digits n negative v }
 {
     if v <= 2147483648 {
         return Scan::Digits(n, negative, v);
@@ -121,7 +121,7 @@ fn valued(n: usize, negative: bool, v: u32) -> Scan
 
 fn more_digits(n: usize, negative: bool, v: u32, d: u32) -> Scan
     requires { d < 10 }
-    ensures { result ≡ valued-digits n negative (10 * v + d) }
+    ensures { result ≡ valued_digits n negative (10 * v + d) }
 {
     if v <= 214748364 {
         return valued(n, negative, 10 * v + d);

@@ -1,6 +1,6 @@
 // Words of 32 bits: from four bytes, to their bits, and a table's checksum.
 ghost use Rattle.std.specs.Prelude.{◌≡◌, ◌<◌, ◌^◌};
-ghost use Rattle.sweep.specs.Words.{four, word_of, bits_of, mixed, checksum as checksum-of};
+ghost use Rattle.sweep.specs.Words.{four, word_of, bits_of, mixed, checksum as checksum_of};
 
 fn wide(b: u8) -> u64
     ensures { result ≡ b }
@@ -48,7 +48,7 @@ fn mix(sum: u64, x: i32) -> u64
 
 // A table's checksum.
 pub fn checksum(words: &[i32]) -> u64
-    ensures { result ≡ checksum-of words.now }
+    ensures { result ≡ checksum_of words.now }
 {
     let mut sum: u64 = 2166136261;
     for x in words {
