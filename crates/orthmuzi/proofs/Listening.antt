@@ -13,7 +13,7 @@ use Rattle.scanner.specs.declared.scan.Scan.TheVariants.{Between, Malformed}
 use Rattle.scanner.specs.declared.pieces.Taken.{Taken}
 use Rattle.scanner.proofs.Steps.{fed_append}
 use Rattle.scanner.proofs.Reading.{reads}
-use Rattle.orthmuzi.specs.Hearing.{Gives, Took, Whole, Heard}
+use Rattle.orthmuzi.specs.Hearing.{Gives, TookNext, Whole, HeardAll}
 
 -- Pieces that all gave bytes, and their text.
 data Came : List Piece → List ℕ → Type 0 where
@@ -81,18 +81,21 @@ going_start before fresh e =
 
 module _ {before : Option (List ℕ)} {fresh : List ℤ} {after : Option (List ℕ)} {s : Scan} {t : List ℤ} {turns : ℕ} (g : Going before fresh after s t turns) where
   -- All turns are used up.
-  pub going_over : 2 ^ 64 - 1 ≤ turns → Heard before Malformed t
+  pub going_over : 2 ^ 64 - 1 ≤ turns → HeardAll before Malformed t
   unfolding text_of
   going_over e =
       let never : text_of g.pieces ≡ malformed = ap text_of (sym (append-nil g.pieces)) ∙ came_text g.came [] in
       record {
-        pieces = g.pieces;
-        all = inr (omega (arith, g.many));
+        heard =
+            record {
+              pieces = g.pieces;
+              all = inr (omega (arith, g.many));
+              says = ap (λ (p : Parsed (List ℕ)). on p job_text) (sym never);
+            };
         whole = whole_never before g.pieces never;
-        says = ap (λ (p : Parsed (List ℕ)). on p job_text) (sym never);
       }
 
-  module _ {later : Option (List ℕ)} {r : Taken} {u : List ℤ} (k : Took after later s t r u) where
+  module _ {later : Option (List ℕ)} {r : Taken} {u : List ℤ} (k : TookNext after later s t r u) where
     further : (p : Piece) → goes_on p ≡ true → Gives after later p → state r.scan u ≡ taken (state s t) p → Going before fresh later r.scan u (turns + 1)
     further failed m v e = absurd (true_is m)
     further (gave []) m v e = absurd (true_is m)
@@ -107,31 +110,37 @@ module _ {before : Option (List ℕ)} {fresh : List ℤ} {after : Option (List �
         }
 
     pub going_on : r.more ≡ true → Going before fresh later r.scan u (turns + 1)
-    going_on m = further k.piece (sym k.more ∙ m) k.gives k.scan
+    going_on m = further k.took.piece (sym k.took.more ∙ m) k.gives k.took.scan
 
-    last : 2198 ≤ length fresh → (p : Piece) → goes_on p ≡ false → Gives after later p → state r.scan u ≡ taken (state s t) p → Heard before r.scan u
+    last : 2198 ≤ length fresh → (p : Piece) → goes_on p ≡ false → Gives after later p → state r.scan u ≡ taken (state s t) p → HeardAll before r.scan u
     unfolding text_of fed
     last l failed m v e =
         let never : text_of (g.pieces ++ (failed ∷ [])) ≡ malformed = came_text g.came (failed ∷ []) in
         record {
-          pieces = g.pieces ++ (failed ∷ []);
-          all = inl (came_ended g.came broke_off);
+          heard =
+              record {
+                pieces = g.pieces ++ (failed ∷ []);
+                all = inl (came_ended g.came broke_off);
+                says = ap finished e ∙ ap (λ (p : Parsed (List ℕ)). on p job_text) (sym never);
+              };
           whole = whole_never before (g.pieces ++ (failed ∷ [])) never;
-          says = ap finished e ∙ ap (λ (p : Parsed (List ℕ)). on p job_text) (sym never);
         }
     last l (gave []) m v e =
         let ends : text_of (g.pieces ++ (gave [] ∷ [])) ≡ parsed (g.text ++ []) = came_text g.came (gave [] ∷ []) in
         record {
-          pieces = g.pieces ++ (gave [] ∷ []);
-          all = inl (came_ended g.came came_to_end);
+          heard =
+              record {
+                pieces = g.pieces ++ (gave [] ∷ []);
+                all = inl (came_ended g.came came_to_end);
+                says =
+                    ap finished (e ∙ g.is)
+                    ∙ reads fresh g.text l
+                    ∙ ap job_text (sym (append-nil g.text))
+                    ∙ ap (λ (p : Parsed (List ℕ)). on p job_text) (sym ends);
+              };
           whole = whole_end before later (g.pieces ++ (gave [] ∷ [])) (g.text ++ []) (consumes_more before after later g.text [] g.left v.0) (v.1 refl) ends;
-          says =
-              ap finished (e ∙ g.is)
-              ∙ reads fresh g.text l
-              ∙ ap job_text (sym (append-nil g.text))
-              ∙ ap (λ (p : Parsed (List ℕ)). on p job_text) (sym ends);
         }
     last l (gave (b ∷ bytes)) m v e = absurd (omega (arith, ltb-false 0 (length (b ∷ bytes)) m))
 
-    pub going_end : 2198 ≤ length fresh → r.more ≡ false → Heard before r.scan u
-    going_end l m = last l k.piece (sym k.more ∙ m) k.gives k.scan
+    pub going_end : 2198 ≤ length fresh → r.more ≡ false → HeardAll before r.scan u
+    going_end l m = last l k.took.piece (sym k.took.more ∙ m) k.gives k.took.scan

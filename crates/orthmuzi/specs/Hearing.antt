@@ -7,28 +7,38 @@ use Rattle.scanner.specs.Scanner.{state, finished, taken, goes_on}
 use Rattle.scanner.specs.declared.scan.Scan.{Scan}
 use Rattle.scanner.specs.declared.pieces.Taken.{Taken}
 
+-- One piece that `read` gave was taken.
+pub record Took (s : Scan) (t : List ℤ) (r : Taken) (u : List ℤ) : Type 0 where
+  pub piece : Piece
+  pub scan : state r.scan u ≡ taken (state s t) piece
+  pub more : r.more ≡ goes_on piece
+
+-- All pieces were taken, and the scan over the table says what their text says.
+pub record Heard (s : Scan) (t : List ℤ) : Type 0 where
+  pub pieces : List Piece
+  pub all : Ended pieces ⊎ (2 ^ 64 - 1 ≤ length pieces)
+  pub says : finished (state s t) ≡ on (text_of pieces) job_text
+
+-- ---- a reader whose bytes are known
+
 -- A piece that `read` gave is the first of the bytes that the reader is known to have left, and is empty only where none are left. A call that failed leaves them all.
 abbrev pub Gives : Option (List ℕ) → Option (List ℕ) → Piece → Type 0
 Gives before after (gave bytes) = Consumes before after bytes × (bytes ≡ [] → IsAtEnd after)
 Gives before after failed = Keeps before after
 
--- One piece that `read` gave was taken.
-pub record Took (before after : Option (List ℕ)) (s : Scan) (t : List ℤ) (r : Taken) (u : List ℤ) : Type 0 where
-  pub piece : Piece
-  pub gives : Gives before after piece
-  pub scan : state r.scan u ≡ taken (state s t) piece
-  pub more : r.more ≡ goes_on piece
+-- The piece taken is what the reader had next.
+pub record TookNext (before after : Option (List ℕ)) (s : Scan) (t : List ℤ) (r : Taken) (u : List ℤ) : Type 0 where
+  pub took : Took s t r u
+  pub gives : Gives before after took.piece
 
 -- The text of these pieces, if it is known to its end, is all that the reader was known to have left before the first.
 abbrev pub Whole : Option (List ℕ) → List Piece → Type 0
 Whole before pieces = IfSome before (λ bytes. (text : List ℕ) → text_of pieces ≡ parsed text → text ≡ bytes)
 
--- All pieces were taken, and the scan over the table says what their text says.
-pub record Heard (before : Option (List ℕ)) (s : Scan) (t : List ℤ) : Type 0 where
-  pub pieces : List Piece
-  pub all : Ended pieces ⊎ (2 ^ 64 - 1 ≤ length pieces)
-  pub whole : Whole before pieces
-  pub says : finished (state s t) ≡ on (text_of pieces) job_text
+-- The pieces taken are all that the reader had.
+pub record HeardAll (before : Option (List ℕ)) (s : Scan) (t : List ℤ) : Type 0 where
+  pub heard : Heard s t
+  pub whole : Whole before heard.pieces
 
 -- A writer took what the program prints of all pieces of a reader.
 pub record Wrote (left before after : Option (List ℕ)) : Type 0 where

@@ -13,7 +13,7 @@ ghost use Rattle.propagator.specs.Plans.{reply_of};
 ghost use Rattle.scanner.specs.Scanner.{state, finished};
 ghost use Rattle.scanner.specs.Layout.{job_in, Room};
 ghost use Rattle.printer.specs.Buffer.{Printed};
-ghost use Rattle.orthmuzi.specs.Hearing.{Took, Heard, Wrote};
+ghost use Rattle.orthmuzi.specs.Hearing.{TookNext, HeardAll, Wrote};
 
 use propagator::Answer;
 use propagator::plans::plan;
@@ -104,7 +104,7 @@ fn complain(errors: &mut impl Write, line: &[u8]) {
 // Reads once, and takes what came, all of it.
 // It rules out a program that loses the rest of a piece (piece_cut_short).
 fn read_some<R: Read>(input: &mut R, errors: &mut impl Write, s: Scan, table: &mut [i32]) -> Taken
-    ensures { Took (R.remaining input.old) (R.remaining input.new) s table.old result table.new }
+    ensures { TookNext (R.remaining input.old) (R.remaining input.new) s table.old result table.new }
 {
     let mut piece = [0u8; 65536];
     let got = match input.read(&mut piece) {
@@ -123,7 +123,7 @@ fn read_some<R: Read>(input: &mut R, errors: &mut impl Write, s: Scan, table: &m
 // Reads to the end of the input. A proved loop has to end, and nothing says that the input does: it takes no more turns than a number that no run uses up.
 fn read_all<R: Read>(input: &mut R, errors: &mut impl Write, table: &mut [i32]) -> Scan
     requires { 2198 ≤ length table.old }
-    ensures { Heard (R.remaining input.old) result table.new }
+    ensures { HeardAll (R.remaining input.old) result table.new }
 {
     let mut scan = scanner::start();
     for _ in 0..u64::MAX {

@@ -1,0 +1,6 @@
+-- The piece that was taken is the first of what the reader had, or tells that the read failed.
+use Rattle.std.proofs.Common.{rules}
+use Rattle.orthmuzi.proofs.read_some.Goals as goal
+
+pub returns : goal.returns
+returns g c = record { took = record { piece = _; scan = c.take.ensures.scan; more = c.take.ensures.more }; gives = search rules }
