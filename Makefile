@@ -8,7 +8,8 @@ JOB ?= examples/worked.txt
 
 .PHONY: run gate bench prove format
 run:
-	cd crates/orthmuzi && rt run < stdin > /dev/null
+	@mkdir -p target && echo 'proving and building the program, some minutes the first time (target/run.log) ..'
+	@cd crates/orthmuzi && rt run < stdin > ../../target/run.log 2>&1 || { tail -n 20 ../../target/run.log; exit 1; }
 	crates/orthmuzi/out/orthmuzi < $(JOB)
 gate:
 	bash .ci/run
