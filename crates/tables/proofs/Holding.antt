@@ -16,7 +16,7 @@ use Rattle.model.specs.Standing.{Sane, SaneLags, Standing}
 use Rattle.model.proofs.Levels.{kind_kept}
 use Rattle.tables.specs.Board.{board, Loaded}
 use Rattle.tables.specs.Job.{reservoir_of, Holds, board_call, Kinds, Serves, Fit}
-use Rattle.tables.proofs.Board.{length_table, windows_board, cage_kept}
+use Rattle.tables.proofs.Boarding.{length_table, windows_board, cage_kept}
 use Rattle.tables.specs.declared.Job.{Job}
 
 module _ {k : Job} {ws : List ℤ} {j : model.Job} (h : Holds k ws j) where

@@ -1,77 +1,94 @@
-// The ends of an event's windows by kind: 1 t ≥, 2 t ≤, 3 h ≥, 4 h ≤.
-ghost use Rattle.std.specs.Prelude.{◌≡◌, ◌+◌, ◌*◌, ◌<◌, ◌≤◌, set};
-ghost use Rattle.std.specs.Int.Signed.{le_z};
+// The four ends of an event's windows, and what is stored and compared there.
+ghost use Rattle.std.specs.Prelude.{◌≡◌};
 ghost use Rattle.model.specs.Job.{word, meets, opposite};
-ghost use Rattle.model.specs.Slips.{end};
-ghost use Rattle.tables.specs.Board.{board};
+ghost use Rattle.model.specs.Slips.{number};
+ghost use Rattle.tables.specs.Ends.{end_of, Named};
 
-use super::{Height, Time, Word};
+use crate::{Height, Time};
 
-// The end of a kind of event y on the board.
-pub fn end_at(b: &[i32; 256], kind: usize, y: usize) -> Word
-    requires { (1 ≤ kind) × (kind ≤ 4) × (y < 64) }
-    ensures { result.0 ≡ board b.now y (end kind) }
-{
-    Word(b[64 * (kind - 1) + y])
-}
+// A word of a table or of a list: a time or a height by its end. It is compared and stored, never added.
+#[derive(Clone, Copy, PartialEq, Eq, PartialOrd, Ord)]
+pub struct Word(pub i32);
 
-// It becomes v; no other word changes.
-pub fn set_end(b: &mut [i32; 256], kind: usize, y: usize, v: Word)
-    requires { (1 ≤ kind) × (kind ≤ 4) × (y < 64) }
-    ensures { b.new ≡ set b.old (64 * word (end kind) + y) v.0 }
-{
-    let x = v.0;
-    b[64 * (kind - 1) + y] = x;
-}
+impl From<Time> for Word {
+    ghost from_gives = { λ t w. w.0 ≡ t.0 };
 
-// A time, a height as a word.
-pub fn time_word(t: Time) -> Word
-    ensures { result.0 ≡ t.0 }
-{
-    Word(t.0)
-}
-
-pub fn height_word(h: Height) -> Word
-    ensures { result.0 ≡ h.0 }
-{
-    Word(h.0)
-}
-
-pub fn at_most(a: Word, b: Word) -> bool
-    ensures { result ≡ le_z a.0 b.0 }
-{
-    let x = a.0;
-    let y = b.0;
-    x <= y
-}
-
-// Does x keep the bound v at an end of this kind?
-pub fn meets(kind: usize, v: Word, x: Word) -> bool
-    requires { (1 ≤ kind) × (kind ≤ 4) }
-    ensures { result ≡ meets (end kind) v.0 x.0 }
-{
-    if kind == 1 {
-        return at_most(v, x);
+    fn from(t: Time) -> Word {
+        Word(t.0)
     }
-    if kind == 3 {
-        return at_most(v, x);
-    }
-    at_most(x, v)
 }
 
-// The kind of the other end of the same window.
-pub fn opposite(kind: usize) -> usize
-    requires { (1 ≤ kind) × (kind ≤ 4) }
-    ensures { (end result ≡ opposite (end kind)) × (1 ≤ result) × (result ≤ 4) }
-{
-    if kind == 1 {
-        return 2;
+impl From<Height> for Word {
+    ghost from_gives = { λ h w. w.0 ≡ h.0 };
+
+    fn from(h: Height) -> Word {
+        Word(h.0)
     }
-    if kind == 2 {
-        return 1;
+}
+
+// An end, with the kind by which a slip names it: t ≥, t ≤, h ≥, h ≤.
+#[derive(Clone, Copy, PartialEq, Eq)]
+pub enum End {
+    TMin = 1,
+    TMax = 2,
+    HMin = 3,
+    HMax = 4,
+}
+
+// A word that is the kind of no end.
+#[derive(Clone, Copy, PartialEq, Eq)]
+pub struct NoEnd;
+
+impl TryFrom<Word> for End {
+    type Error = NoEnd;
+
+    ghost try_from_gives = { λ w r. Named w.0 r };
+
+    fn try_from(kind: Word) -> Result<End, NoEnd> {
+        match kind.0 {
+            1 => Ok(End::TMin),
+            2 => Ok(End::TMax),
+            3 => Ok(End::HMin),
+            4 => Ok(End::HMax),
+            _ => Err(NoEnd),
+        }
     }
-    if kind == 3 {
-        return 4;
+}
+
+impl End {
+    // The number of its kind.
+    pub fn kind(self) -> usize
+        ensures { result ≡ number (end_of self) }
+    {
+        self as usize
     }
-    3
+
+    // Its row on a board.
+    pub fn row(self) -> usize
+        ensures { result ≡ word (end_of self) }
+    {
+        self as usize - 1
+    }
+
+    // The other end of the same window.
+    pub fn opposite(self) -> End
+        ensures { end_of result ≡ opposite (end_of self) }
+    {
+        match self {
+            End::TMin => End::TMax,
+            End::TMax => End::TMin,
+            End::HMin => End::HMax,
+            End::HMax => End::HMin,
+        }
+    }
+
+    // Does x keep the bound v at this end?
+    pub fn meets(self, v: Word, x: Word) -> bool
+        ensures { result ≡ meets (end_of self) v.0 x.0 }
+    {
+        match self {
+            End::TMin | End::HMin => v <= x,
+            End::TMax | End::HMax => x <= v,
+        }
+    }
 }

@@ -1,7 +1,7 @@
--- `tables::t_max` reads the board's word of that end. Assumes nothing.
+-- `tables::h_min` reads the board's word of that end. Assumes nothing.
 use borrow.Author.Rules.{rules}
 use Rattle.tables.specs.Board.{board}
-use Rattle.tables.proofs.t_max.Goals as goal
+use Rattle.tables.proofs.board.Board.h_min.Goals as goal
 
 pub returns : goal.returns
 unfolding board
