@@ -23,14 +23,3 @@ pub record Masked (n : ℕ) (table : List ℤ) (e : ℕ) (b s : List ℤ) : Type
 pub record Joined (n : ℕ) (table : List ℤ) (e : ℕ) (b s c : List ℤ) : Type 0 where
   pub whole : Whole c
   pub is : (y : ℕ) → y < n → (k : End) → board c y k ≡ cond (together table e y) (board s y k) (board b y k)
-
--- Event y's words of the board b stored on s, its amounts only if it is in the cage.
-unfoldable pub masked_event : Bool → List ℤ → ℕ → List ℤ → List ℤ
-masked_event own b y s =
-    set
-    (set
-    (set
-    (set s (64 * word t_min + y) (board b y t_min))
-    (64 * word t_max + y) (board b y t_max))
-    (64 * word h_min + y) (cond own (board b y h_min) (pos 0)))
-    (64 * word h_max + y) (cond own (board b y h_max) (pos 0))

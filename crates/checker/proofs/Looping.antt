@@ -21,7 +21,7 @@ use Rattle.model.proofs.Ranges.{end_range}
 use Rattle.model.proofs.Accepted.{passed, passed_standing}
 use Rattle.tables.specs.Board.{board, table_of, Whole as Full}
 use Rattle.tables.specs.declared.Job.{Job}
-use Rattle.tables.proofs.Board.{windows_board, length_table}
+use Rattle.tables.proofs.Boarding.{windows_board, length_table}
 use Rattle.judging.specs.Ready.{call_of, Ready}
 use Rattle.judging.specs.Wide.{opened}
 use Rattle.judging.proofs.Seating.{events_are}

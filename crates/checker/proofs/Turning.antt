@@ -18,7 +18,7 @@ use Rattle.model.proofs.Accepted.{passed}
 use Rattle.model.proofs.Sound.{named}
 use Rattle.tables.specs.Board.{table_of, Whole as Full}
 use Rattle.tables.specs.declared.Job.{Job}
-use Rattle.tables.proofs.Board.{table_set}
+use Rattle.tables.proofs.Boarding.{table_set}
 use Rattle.slips.specs.Slip.{headed, explanation_of, reading_of, Placed, Stands}
 use Rattle.slips.specs.declared.Slip.{Slip}
 use Rattle.slips.specs.declared.SlipRead.{SlipRead}

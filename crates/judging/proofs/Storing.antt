@@ -13,7 +13,7 @@ use Rattle.model.specs.Reader.{same_end, narrow}
 use Rattle.model.proofs.Order.{same_end_is}
 use Rattle.model.proofs.Table.{store}
 use Rattle.tables.specs.Board.{board, Whole}
-use Rattle.tables.proofs.Board.{board_set_same, board_set_event, board_set_end}
+use Rattle.tables.proofs.Boarding.{board_set_same, board_set_event, board_set_end}
 
 pub whole_set : (b b' : List ℤ) (i : ℕ) (v : ℤ) → Whole b → b' ≡ set b i v → Whole b'
 whole_set b b' i v w e = ap length e ∙ length-set b i v ∙ w

@@ -13,7 +13,7 @@ use lib.IntN.{ℤ, pos}
 use lib.ListN.{length, set, replicate, length-set, get_or-replicate}
 use Rattle.model.specs.Job.{End, t_min, t_max, h_min, h_max, word, any}
 use Rattle.tables.specs.Board.{board}
-use Rattle.tables.proofs.Board.{board_set_same, board_set_event, board_set_end}
+use Rattle.tables.proofs.Boarding.{board_set_same, board_set_event, board_set_end}
 use Rattle.totals.specs.Totals.{event_at}
 use Rattle.members.specs.Members.{Blank, amount, Alone, shown_event}
 

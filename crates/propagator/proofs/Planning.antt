@@ -17,7 +17,7 @@ use Rattle.integers.proofs.Tests.{and_out}
 use Rattle.model.proofs.Questions.{asked, limit_asked}
 use Rattle.model.proofs.Ranges.{end_range}
 use Rattle.tables.specs.Board.{board, table_of, Loaded}
-use Rattle.tables.proofs.Board.{windows_board}
+use Rattle.tables.proofs.Boarding.{windows_board}
 use Rattle.tables.proofs.Holding.{standing_signed}
 use Rattle.questions.specs.Asked.{check_of}
 use Rattle.questions.specs.declared.Check.{Check}

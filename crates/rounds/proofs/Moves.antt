@@ -14,7 +14,7 @@ use Rattle.model.specs.Agenda.{Attempt, try, each_of, lag_attempts, target_attem
 use Rattle.model.specs.Rounds.{made}
 use Rattle.model.proofs.Sweeps.{made_append, made_more}
 use Rattle.tables.specs.Board.{board, table_of}
-use Rattle.tables.proofs.Board.{windows_board}
+use Rattle.tables.proofs.Boarding.{windows_board}
 use Rattle.tables.proofs.Holding.{serves_alike}
 use Rattle.tables.specs.Job.{reservoir_of, Holds, Fit}
 use Rattle.tables.specs.declared.Job.{Job}

@@ -17,7 +17,7 @@ use Rattle.model.proofs.Silence.{Idle, Still, Quiet, made_still, targets_still, 
 use Rattle.tables.specs.Board.{board, table_of}
 use Rattle.tables.specs.Job.{reservoir_of, board_call, Serves, Fit}
 use Rattle.tables.specs.declared.Job.{Job}
-use Rattle.tables.proofs.Board.{length_table}
+use Rattle.tables.proofs.Boarding.{length_table}
 use Rattle.tables.proofs.Holding.{lags_of, board_serves, serves_alike}
 use Rattle.levels.specs.Values.{as_view, seen_by}
 use Rattle.levels.specs.declared.View.{View as Sight}

@@ -24,7 +24,7 @@ use Rattle.model.proofs.Words.{slip_words_length, premise_list_length}
 use Rattle.tables.specs.Board.{Whole, board, table_of}
 use Rattle.tables.specs.Job.{Holds, Kinds, Serves, Fit}
 use Rattle.tables.specs.declared.Job.{Job}
-use Rattle.tables.proofs.Board.{table_set, board_set_same, board_set_event, board_set_end}
+use Rattle.tables.proofs.Boarding.{table_set, board_set_same, board_set_event, board_set_end}
 use Rattle.tables.proofs.Holding.{lags_of}
 use Rattle.rules.specs.Values.{effect_of, is_idle, subjects_of, Narrower, Tries, Does}
 use Rattle.rules.specs.declared.Effect.{Effect as Done}

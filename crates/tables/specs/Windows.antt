@@ -1,22 +1,19 @@
 -- The windows of one event: read off a board or a window table, and stored on a board.
 use Rattle.std.specs.Prelude.{◌≡◌, List, ℕ, ◌+◌, ◌*◌, ℤ, set}
-use Rattle.model.specs.Job.{t_min, t_max, h_min, h_max, word, windows}
-use Rattle.tables.specs.Board.{board}
-use Rattle.tables.specs.declared.board.Windows.{Windows}
+use Rattle.model.specs.Job as model
+use Rattle.model.specs.Job.{End, t_min, t_max, h_min, h_max, word}
+use Rattle.tables.specs.declared.windows.Windows.{Windows}
 
--- Event y of a board has the windows w.
-pub record HasWindows (b : List ℤ) (y : ℕ) (w : Windows) : Type 0 where
-  pub t_min_is : w.t_min.0 ≡ board b y t_min
-  pub t_max_is : w.t_max.0 ≡ board b y t_max
-  pub h_min_is : w.h_min.0 ≡ board b y h_min
-  pub h_max_is : w.h_max.0 ≡ board b y h_max
+-- One of its ends.
+abbrev pub at_end : Windows → End → ℤ
+at_end w t_min = w.t_min.0
+at_end w t_max = w.t_max.0
+at_end w h_min = w.h_min.0
+at_end w h_max = w.h_max.0
 
--- Event y of a window table has them.
-pub record IsRow (table : List ℤ) (y : ℕ) (w : Windows) : Type 0 where
-  pub t_min_is : w.t_min.0 ≡ windows table y t_min
-  pub t_max_is : w.t_max.0 ≡ windows table y t_max
-  pub h_min_is : w.h_min.0 ≡ windows table y h_min
-  pub h_max_is : w.h_max.0 ≡ windows table y h_max
+-- They are those of event y in W.
+abbrev pub Event : model.Windows → ℕ → Windows → Type 0
+Event W y w = (k : End) → at_end w k ≡ W y k
 
 -- The board b with the windows w for event y.
 unfoldable pub windows_set : Windows → ℕ → List ℤ → List ℤ

@@ -1,99 +1,79 @@
 // The board: the windows of up to 64 events, each end's words side by side, so that a loop over events goes along a row.
 ghost use Rattle.std.specs.Prelude.{◌≡◌, ◌+◌, ◌*◌, ◌<◌, ◌≤◌, pos, length, replicate, set};
 ghost use Rattle.std.proofs.lemmas.List.Edits.{sets};
-ghost use Rattle.model.specs.Job.{t_min, t_max, h_min, h_max, word};
+ghost use Rattle.model.specs.Job.{t_min, t_max, h_min, h_max, word, windows};
 ghost use Rattle.tables.specs.Board.{board, words_of, table_of, Loaded};
 ghost use Rattle.tables.specs.Ends.{end_of};
-ghost use Rattle.tables.specs.Windows.{windows_set, HasWindows, IsRow};
+ghost use Rattle.tables.specs.Windows.{windows_set, Event};
 
 use crate::ends::{End, Word};
+use crate::windows::Windows;
 use crate::{Height, Time};
-
-// The windows of one event.
-#[derive(Clone, Copy)]
-pub struct Windows {
-    pub t_min: Time,
-    pub t_max: Time,
-    pub h_min: Height,
-    pub h_max: Height,
-}
-
-impl Windows {
-    // Those of event y of a window table.
-    pub fn of_event(table: &[i32], y: usize) -> Windows
-        requires { 5 * y + 5 ≤ length table.now }
-        ensures { IsRow table.now y result }
-    {
-        Windows {
-            t_min: Time(table[5 * y]),
-            t_max: Time(table[5 * y + 1]),
-            h_min: Height(table[5 * y + 2]),
-            h_max: Height(table[5 * y + 3]),
-        }
-    }
-}
 
 // Word k of event y, in the order of the ends, at 64·k + y.
 #[derive(Clone, Copy)]
-pub struct Board(pub [i32; 256]);
+pub struct Board {
+    pub words: [i32; 256],
+    ghost whole: { length words ≡ 256 },
+}
 
 impl Board {
     // No event has a number yet.
     pub fn blank() -> Board
-        ensures { result.0 ≡ replicate 256 (pos 0) }
+        ensures { result.words ≡ replicate 256 (pos 0) }
     {
-        Board([0; 256])
+        Board { words: [0; 256] }
     }
 
     // An end of event y's windows.
     pub fn end(&self, k: End, y: usize) -> Word
         requires { y < 64 }
-        ensures { result.0 ≡ board self.now.0 y (end_of k) }
+        ensures { result.0 ≡ board self.now.words y (end_of k) }
     {
-        Word(self.0[64 * k.row() + y])
+        Word(self.words[64 * k.row() + y])
     }
 
     // It becomes v; no other word changes.
     pub fn set_end(&mut self, k: End, y: usize, v: Word)
         requires { y < 64 }
-        ensures { self.new.0 ≡ set self.old.0 (64 * word (end_of k) + y) v.0 }
+        ensures { self.new.words ≡ set self.old.words (64 * word (end_of k) + y) v.0 }
     {
-        self.0[64 * k.row() + y] = v.0;
+        self.words[64 * k.row() + y] = v.0;
     }
 
     // The ends by their names, each with its measure: one function over the end would hand back a word, and each caller would have to say again what it measures.
     pub fn t_min(&self, y: usize) -> Time
         requires { y < 64 }
-        ensures { result.0 ≡ board self.now.0 y t_min }
+        ensures { result.0 ≡ board self.now.words y t_min }
     {
-        Time(self.0[y])
+        Time(self.words[y])
     }
 
     pub fn t_max(&self, y: usize) -> Time
         requires { y < 64 }
-        ensures { result.0 ≡ board self.now.0 y t_max }
+        ensures { result.0 ≡ board self.now.words y t_max }
     {
-        Time(self.0[64 + y])
+        Time(self.words[64 + y])
     }
 
     pub fn h_min(&self, y: usize) -> Height
         requires { y < 64 }
-        ensures { result.0 ≡ board self.now.0 y h_min }
+        ensures { result.0 ≡ board self.now.words y h_min }
     {
-        Height(self.0[128 + y])
+        Height(self.words[128 + y])
     }
 
     pub fn h_max(&self, y: usize) -> Height
         requires { y < 64 }
-        ensures { result.0 ≡ board self.now.0 y h_max }
+        ensures { result.0 ≡ board self.now.words y h_max }
     {
-        Height(self.0[192 + y])
+        Height(self.words[192 + y])
     }
 
     // Event y's windows.
     pub fn windows(&self, y: usize) -> Windows
         requires { y < 64 }
-        ensures { HasWindows self.now.0 y result }
+        ensures { Event (board self.now.words) y result }
     {
         Windows {
             t_min: self.t_min(y),
@@ -106,18 +86,18 @@ impl Board {
     // They become w; no other word changes.
     pub fn set_windows(&mut self, y: usize, w: Windows)
         requires { y < 64 }
-        ensures { self.new.0 ≡ windows_set w y self.old.0 }
+        ensures { self.new.words ≡ windows_set w y self.old.words }
     {
-        self.0[y] = w.t_min.0;
-        self.0[64 + y] = w.t_max.0;
-        self.0[128 + y] = w.h_min.0;
-        self.0[192 + y] = w.h_max.0;
+        self.words[y] = w.t_min.0;
+        self.words[64 + y] = w.t_max.0;
+        self.words[128 + y] = w.h_min.0;
+        self.words[192 + y] = w.h_max.0;
     }
 
     // The board gets the windows of a window table of n events.
     pub fn load(&mut self, table: &[i32], n: usize)
         requires { (n ≤ 64) × (length table.now ≡ 5 * n) }
-        ensures { Loaded n table.now self.new.0 }
+        ensures { Loaded n table.now self.new.words }
     {
         for y in 0..n {
             self.set_windows(y, Windows::of_event(table, y));
@@ -127,7 +107,7 @@ impl Board {
     // The words of event y's windows into the window table; its cage stays.
     fn unload_event(&self, y: usize, table: &mut [i32])
         requires { (y < 64) × (5 * y + 5 ≤ length table.old) }
-        ensures { table.new ≡ sets table.old (5 * y) (words_of self.now.0 y) }
+        ensures { table.new ≡ sets table.old (5 * y) (words_of self.now.words y) }
     {
         let w = self.windows(y);
         table[5 * y] = w.t_min.0;
@@ -139,7 +119,7 @@ impl Board {
     // The windows of n events back into the window table.
     pub fn unload(&self, n: usize, table: &mut [i32])
         requires { (n ≤ 64) × (length table.old ≡ 5 * n) }
-        ensures { table.new ≡ table_of n table.old self.now.0 }
+        ensures { table.new ≡ table_of n table.old self.now.words }
     {
         for y in 0..n {
             self.unload_event(y, table);

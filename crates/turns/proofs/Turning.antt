@@ -20,7 +20,7 @@ use Rattle.model.proofs.Sweeps.{made_append, made_more}
 use Rattle.tables.specs.Board.{board, table_of}
 use Rattle.tables.specs.Job.{reservoir_of, Holds, Kinds, Serves, Fit}
 use Rattle.tables.specs.declared.Job.{Job}
-use Rattle.tables.proofs.Board.{length_table, windows_board, cage_kept}
+use Rattle.tables.proofs.Boarding.{length_table, windows_board, cage_kept}
 use Rattle.cages.specs.Masking.{together, Homed, Masked, Joined}
 use Rattle.rounds.specs.State.{state_of, Held, Grown, Made}
 use Rattle.rounds.specs.Sweeps.{lags_attempts, events_attempts}

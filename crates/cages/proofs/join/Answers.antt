@@ -1,10 +1,19 @@
 use native.Mathlib.Omega.{arith}
-use Rattle.cages.proofs.Masking.{joined_more}
+use mathlib.Core.Path.{refl, sym, ◌∙◌}
+use Rattle.cages.proofs.Masking.{joined_own, joined_other}
 use Rattle.cages.proofs.join.Goals as goal
+use Rattle.cages.proofs.join.Goals.{then-together, else-together}
+
+pub loop-y-init : goal.loop-y-init
+loop-y-init c = (c.args.b.now.whole, λ z l k. absurd (omega arith), λ z l h k. refl)
 
 pub loop-y-preserved : goal.loop-y-preserved
 loop-y-preserved c =
     let l = c.loop-y in
     let a = c.args in
     let few = c.requires.0.few in
-    (omega arith, joined_more l.y a.table.now a.e a.b.now a.s.now l.b c.together.result (omega (arith, few)) c.together.ensures l.invariant.1 c.join_event.ensures)
+    let is = c.together.ensures in
+    elim c.if-together.branch [
+      | then-together w ↦ rw w.b-is (joined_own l.y a.table.now a.e a.b.now.words a.s.now.words l.b.words (omega (arith, few)) (sym is ∙ w.if-together.true) l.invariant w.windows.ensures w.set_windows.ensures)
+      | else-together w ↦ rw w.b-is (joined_other l.y a.table.now a.e a.b.now.words a.s.now.words l.b.words (omega (arith, few)) (sym is ∙ w.if-together.false) l.invariant)
+    ]

@@ -2,9 +2,12 @@ use native.Mathlib.Omega.{arith}
 use Rattle.cages.proofs.Masking.{masked_more}
 use Rattle.cages.proofs.mask.Goals as goal
 
+pub loop-y-init : goal.loop-y-init
+loop-y-init c = (c.args.s.now.whole, λ z l k. absurd (omega arith))
+
 pub loop-y-preserved : goal.loop-y-preserved
 loop-y-preserved c =
     let l = c.loop-y in
     let a = c.args in
     let few = c.requires.0.few in
-    (omega arith, masked_more l.y a.table.now a.e a.b.now l.s c.together.result (omega (arith, few)) c.together.ensures l.invariant.1 c.mask_event.ensures)
+    masked_more l.y a.table.now a.e a.b.now.words l.s.words (omega (arith, few)) c.together-own.ensures l.invariant c.windows.ensures c.seen.ensures c.set_windows.ensures

@@ -11,5 +11,5 @@ pub returns : goal.returns
 unfolding board
 returns c =
     let a = c.args in
-    let ws = a.self.now.0 in
+    let ws = a.self.now.words in
     back32 (get_or ws (64 * c.row.result + a.y) (pos 0)) (search) ∙ ap (λ r. get_or ws (64 * r + a.y) (pos 0)) c.row.ensures

@@ -6,4 +6,4 @@ use Rattle.tables.specs.Board.{table_of}
 use Rattle.tables.proofs.board.Board.load.Given as goal
 
 abbrev pub invariant-loop-y : goal.invariant-loop-y
-invariant-loop-y l = (length l.self.0 ≡ 256) × (table_of l.y l.table l.self.0 ≡ take (5 * l.y) l.table)
+invariant-loop-y l = (length l.self.words ≡ 256) × (table_of l.y l.table l.self.words ≡ take (5 * l.y) l.table)

@@ -9,4 +9,4 @@ use Rattle.tables.proofs.board.Board.t_min.Goals as goal
 pub returns : goal.returns
 returns c =
     let a = c.args in
-    back32 (get_or a.self.now.0 a.y (pos 0)) (search) ∙ first_word a.self.now.0 a.y
+    back32 (get_or a.self.now.words a.y (pos 0)) (search) ∙ first_word a.self.now.words a.y

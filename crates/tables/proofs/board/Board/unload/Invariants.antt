@@ -7,4 +7,4 @@ use Rattle.tables.specs.Board.{table_of}
 use Rattle.tables.proofs.board.Board.unload.Given as goal
 
 abbrev pub invariant-loop-y : goal.invariant-loop-y
-invariant-loop-y l = (length l.table ≡ length l.initial.table) × (l.table ≡ table_of l.y l.initial.table l.self.0 ++ drop (5 * l.y) l.initial.table)
+invariant-loop-y l = (length l.table ≡ length l.initial.table) × (l.table ≡ table_of l.y l.initial.table l.self.words ++ drop (5 * l.y) l.initial.table)

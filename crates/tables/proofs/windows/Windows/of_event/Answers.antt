@@ -5,17 +5,17 @@ use lib.IntN.{ℤ, pos}
 use lib.ListN.{get_or}
 use mathlib.Core.Path.{◌∙◌, sym, ap}
 use Rattle.integers.proofs.Linear.{back32}
-use Rattle.model.specs.Job.{windows}
-use Rattle.tables.proofs.board.Windows.of_event.Goals as goal
+use Rattle.model.specs.Job.{t_min, t_max, h_min, h_max, windows}
+use Rattle.tables.proofs.windows.Windows.of_event.Goals as goal
 
 pub returns : goal.returns
 unfolding windows
 returns c =
     let a = c.args in
     let at : ℕ → ℤ = λ i. get_or a.table.now i (pos 0) in
-    record {
-      t_min_is = back32 (at (5 * a.y)) (search) ∙ ap at (sym (add-zero _));
-      t_max_is = back32 (at (5 * a.y + 1)) (search);
-      h_min_is = back32 (at (5 * a.y + 2)) (search);
-      h_max_is = back32 (at (5 * a.y + 3)) (search);
-    }
+    elim [
+      t_min ↦ back32 (at (5 * a.y)) (search) ∙ ap at (sym (add-zero _))
+      | t_max ↦ back32 (at (5 * a.y + 1)) (search)
+      | h_min ↦ back32 (at (5 * a.y + 2)) (search)
+      | h_max ↦ back32 (at (5 * a.y + 3)) (search)
+    ]
