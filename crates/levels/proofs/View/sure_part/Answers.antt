@@ -2,9 +2,9 @@
 use Rattle.tables.specs.Board.{board}
 use Rattle.levels.specs.Values.{as_view, seen_by}
 use Rattle.levels.proofs.Adding.{side_ranged, sure_level}
-use Rattle.levels.proofs.levels.sure_part.Goals as goal
+use Rattle.levels.proofs.View.sure_part.Goals as goal
 
 pub returns : goal.returns
 returns c =
     let a = c.args in
-    sure_level (as_view a.view (board a.b.now)) (seen_by a.view (board a.b.now)) (side_ranged a.view.mirror c.requires.ranged) c.e_min.ensures c.most_in.ensures
+    sure_level (as_view a.self (board a.b.now.words)) (seen_by a.self (board a.b.now.words)) (side_ranged a.self.mirror c.requires.ranged) c.e_min.ensures c.most_in.ensures
