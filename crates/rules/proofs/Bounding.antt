@@ -3,20 +3,21 @@
 use mathlib.Core.Path.{◌≡◌, refl, sym, subst, ◌∙◌}
 use mathlib.Core.Bool.{Bool, true, false, not, ◌&&◌, ◌||◌}
 use Prim.Native.Nat.{ℕ, ◌+◌}
+use Rattle.std.specs.Prelude.{Option, None, Some}
 use native.Mathlib.Numerals.{add-one}
 use lib.Dec.{T}
 use lib.IntN.{ℤ}
 use lib.Signed.{le_z, lt_z, ◌≤ℤ◌, ◌<ℤ◌, le_z_yes}
 use Rattle.integers.proofs.Linear.{ints}
-use Rattle.integers.proofs.Tests.{is_true, true_is, and_out}
+use Rattle.integers.proofs.Tests.{true_is}
 use Rattle.model.specs.Job.{t_min, h_max, Windows, produces, consumes}
 use Rattle.model.specs.View.{View}
 use Rattle.model.specs.Levels.{e_min, stands, most_in, sure_part}
 use Rattle.model.specs.Rules.{Finding, nothing, bound, given_if, counts_from, earlier, possible_producer, reached_at, earliest, time_rule, targeted}
 use Rattle.model.proofs.Levels.{most_later}
 use Rattle.levels.specs.Values.{place_by}
-use Rattle.rules.specs.Values.{Short}
-use Rattle.rules.specs.declared.Soonest.{Soonest}
+use Rattle.rules.specs.Values.{time_found, is_beaten, falls_short, Short}
+use Rattle.tables.specs.declared.measures.Time.{Time}
 
 or_false : (b : Bool) → (b || false) ≡ b
 or_false true = refl
@@ -42,30 +43,16 @@ module _ (E : View) (W : Windows) (y : ℕ) where
       u ≡ e_min E W → v ≡ counts_from (E.before y) (W y t_min) → l ≡ most_in E W u v → r ≡ le_z E.limit l → r ≡ reached_at E W y
   reached_yes p q a b c d = rw (d, c, a, b, sym p ∙ q)
 
--- ---- the earlier of two times: a best time v, if found (f), and w, if reached (h)
+-- ---- the earlier of two times: the best found, if any, and w, if reached (h)
 
-stays : (f h : Bool) (v w : ℤ) → (f && le_z v w) ≡ true → given_if f (bound v) ≡ earlier (given_if f (bound v)) (given_if h (bound w))
-stays true true v w e = rw e
-stays true false v w e = refl
-stays false h v w e = absurd (subst T (sym e) tt)
+pub best_stays : (o : Option Time) (h : Bool) {t : ℤ} (w : ℤ) → t ≡ w → is_beaten o t ≡ true → time_found o ≡ earlier (time_found o) (given_if h (bound w))
+best_stays None h w e q = absurd (subst T (sym q) tt)
+best_stays (Some v) true w e q = let q' = rw e at q in rw q'
+best_stays (Some v) false w e q = refl
 
-new : (f : Bool) (v w : ℤ) → (f && le_z v w) ≡ false → bound w ≡ earlier (given_if f (bound v)) (bound w)
-new true v w e = rw e
-new false v w e = refl
-
-alone : (f : Bool) (v : ℤ) → given_if f (bound v) ≡ earlier (given_if f (bound v)) nothing
-alone true v = refl
-alone false v = refl
-
-module _ (f h : Bool) (v : ℤ) {t w : ℤ} {z : Bool} (same : t ≡ w) (tested : z ≡ (f && le_z v t)) where
-  pub best_stays : z ≡ true → given_if f (bound v) ≡ earlier (given_if f (bound v)) (given_if h (bound w))
-  best_stays p = stays f h v w (rw same at (sym tested ∙ p))
-
-  pub best_new : {r : Bool} → z ≡ false → r ≡ h → r ≡ true → bound t ≡ earlier (given_if f (bound v)) (given_if h (bound w))
-  best_new p q k = rw (sym q ∙ k, same) (new f v w (rw same at (sym tested ∙ p)))
-
-  pub best_alone : {r : Bool} → r ≡ h → r ≡ false → given_if f (bound v) ≡ earlier (given_if f (bound v)) (given_if h (bound w))
-  best_alone q k = rw (sym q ∙ k) (alone f v)
+pub best_alone : (o : Option Time) (h : Bool) (w : ℤ) → false ≡ h → time_found o ≡ earlier (time_found o) (given_if h (bound w))
+best_alone None h w e = rw (← e)
+best_alone (Some v) h w e = rw (← e)
 
 -- ---- the search
 
@@ -92,12 +79,11 @@ and_false false b e = refl
 
 module _ (E : View) (W : Windows) (y : ℕ) where
   -- y's time falls short, as a later one does.
-  pub short_unreached : (k : Soonest) {t : ℤ} {z : Bool} → Short E W k → t ≡ counts_from (E.before y) (W y t_min) → z ≡ (k.found && le_z t k.at.0) → z ≡ true → false ≡ reached_at E W y
-  short_unreached k {t} short p q r =
-      let both = and_out k.found (le_z t k.at.0) (true_is (sym q ∙ r)) in
+  pub short_unreached : (o : Option Time) {t : ℤ} → Short E W o → t ≡ counts_from (E.before y) (W y t_min) → falls_short o t ≡ true → false ≡ reached_at E W y
+  short_unreached None short p q = absurd (subst T (sym q) tt)
+  short_unreached (Some k) {t} short p q =
       let v = counts_from (E.before y) (W y t_min) in
-      let low = short (is_true k.found both.0) in
-      let up = most_later E W (e_min E W) v k.at.0 (subst (λ (x : ℤ). x ≤ℤ k.at.0) p (le_z_yes both.1)) in
+      let up = most_later E W (e_min E W) v k.0 (subst (λ (x : ℤ). x ≤ℤ k.0) p (le_z_yes (true_is q))) in
       let none : le_z E.limit (most_in E W (e_min E W) v) ≡ false = omega ints in
       sym (and_false (possible_producer (stands E W y) (W y h_max)) (le_z E.limit (most_in E W (e_min E W) v)) none)
 

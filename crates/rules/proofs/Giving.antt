@@ -3,9 +3,8 @@
 use mathlib.Core.Path.{◌≡◌, refl, sym, ap, ◌∙◌}
 use mathlib.Core.Bool.{Bool, true, false}
 use mathlib.Core.List.{List}
-use Prim.Native.Nat.{ℕ, zero, suc, ◌-◌, ◌/◌, ◌%◌, ◌≤◌, ◌<◌}
+use Prim.Native.Nat.{ℕ, ◌/◌, ◌<◌}
 use native.Mathlib.Omega.{arith}
-use lib.Dec.{eqb, ltb}
 use lib.IntN.{ℤ, nat_abs, ◌+ℤ◌, ◌-ℤ◌}
 use lib.ListN.{length}
 use lib.Signed.{lt_z}
@@ -13,42 +12,13 @@ use Rattle.model.specs.Job.{t_min, t_max, h_min, h_max, Windows, lag_word, Job a
 use Rattle.model.specs.Standing.{Ranged}
 use Rattle.model.specs.View.{side_value}
 use Rattle.model.specs.Levels.{stands, most}
-use Rattle.model.specs.Rules.{Finding, nothing, clash, bound, given_if, Family, level, time, height, Rule, reservoir, rule, finding, time_rule, targeted, side_finding, family_end}
+use Rattle.model.specs.Rules.{Finding, nothing, clash, bound, Family, level, time, height, Rule, lag_upper, lag_lower, reservoir, finding, time_rule, targeted, side_finding, family_end}
 use Rattle.tables.specs.Job.{reservoir_of, Serves, Fit}
 use Rattle.tables.specs.declared.Job.{Job}
 use Rattle.levels.specs.Values.{as_view, seen_by, Views}
 use Rattle.levels.specs.declared.View.{View as Sight}
 use Rattle.levels.proofs.Viewing.{rule_here}
-use Rattle.rules.specs.Values.{family_of, seen_rule, subjects_of, Lagged}
-
--- ---- by number
-
--- The three tests on a number of 3..14.
-pub variant_is : (r : ℕ) → 3 ≤ r → r ≤ 14 → reservoir (eqb ((r - 3) / 3 % 2) 1) (ltb (r - 3) 6) (family_of ((r - 3) % 3)) ≡ rule r
-variant_is zero l h = absurd (omega arith)
-variant_is (suc zero) l h = absurd (omega arith)
-variant_is (suc (suc zero)) l h = absurd (omega arith)
-variant_is (suc (suc (suc k))) l h = go k (omega arith)
-  where
-    go : (k : ℕ) → k ≤ 11 → reservoir (eqb ((suc (suc (suc k)) - 3) / 3 % 2) 1) (ltb (suc (suc (suc k)) - 3) 6) (family_of ((suc (suc (suc k)) - 3) % 3)) ≡ rule (suc (suc (suc k)))
-    go zero h = refl
-    go (suc zero) h = refl
-    go (suc (suc zero)) h = refl
-    go (suc (suc (suc zero))) h = refl
-    go (suc (suc (suc (suc zero)))) h = refl
-    go (suc (suc (suc (suc (suc zero))))) h = refl
-    go (suc (suc (suc (suc (suc (suc zero)))))) h = refl
-    go (suc (suc (suc (suc (suc (suc (suc zero))))))) h = refl
-    go (suc (suc (suc (suc (suc (suc (suc (suc zero)))))))) h = refl
-    go (suc (suc (suc (suc (suc (suc (suc (suc (suc zero))))))))) h = refl
-    go (suc (suc (suc (suc (suc (suc (suc (suc (suc (suc zero)))))))))) h = refl
-    go (suc (suc (suc (suc (suc (suc (suc (suc (suc (suc (suc zero))))))))))) h = refl
-    go (suc (suc (suc (suc (suc (suc (suc (suc (suc (suc (suc (suc k)))))))))))) h = absurd (omega arith)
-
-pub family_rest : (k : ℕ) → (k ≡ 0 → ⊥) → (k ≡ 1 → ⊥) → family_of k ≡ height
-family_rest zero a b = absurd (a refl)
-family_rest (suc zero) a b = absurd (b refl)
-family_rest (suc (suc k)) a b = refl
+use Rattle.rules.specs.Values.{seen_rule, subjects_of, Lagged}
 
 -- A rule of 3..14 has events for subjects.
 pub event_subject : (m b : Bool) (f : Family) {q : Rule} (k : Job) (ws : List ℤ) {e : ℕ} → reservoir m b f ≡ q → e < subjects_of q k ws → e < k.events
@@ -64,12 +34,6 @@ side_time true (bound v) = refl
 side_time false nothing = refl
 side_time false clash = refl
 side_time false (bound v) = refl
-
-pub found_it : {t : Bool} {v : ℤ} {f : Finding} → t ≡ true → given_if t (bound v) ≡ f → bound v ≡ f
-found_it p q = rw p at q
-
-pub found_none : {t : Bool} (v : ℤ) {f : Finding} → t ≡ false → given_if t (bound v) ≡ f → nothing ≡ f
-found_none v p q = rw p at q
 
 module _ (v : Sight) (W : Windows) where
   pub level_yes : {t : Bool} → t ≡ lt_z (most (as_view v W) (seen_by v W)) v.limit.0 → t ≡ true → clash ≡ seen_rule level v W v.subject
@@ -102,20 +66,19 @@ lagged {k} {ws} {W} f r g l =
       late = r.range (nat_abs (lag_word ws g 1)) s.real_b t_max;
     }
 
-module _ {k : Job} {ws : List ℤ} (W : Windows) (r e y : ℕ) where
-  pub gives_upper : {x : ℤ} → r ≡ 1 → x ≡ W (nat_abs (lag_word ws e 1)) t_max +ℤ lag_word ws e 2 → (j : Call) → Serves k ws W j → bound x ≡ finding (rule r) j W e y
+module _ {k : Job} {ws : List ℤ} (W : Windows) (e y : ℕ) where
+  pub gives_upper : {x : ℤ} → x ≡ W (nat_abs (lag_word ws e 1)) t_max +ℤ lag_word ws e 2 → (j : Call) → Serves k ws W j → bound x ≡ finding lag_upper j W e y
   unfolding finding
-  gives_upper p q j h = rw (p, q, h.holds.lags_are)
+  gives_upper q j h = rw (q, h.holds.lags_are)
 
-  pub gives_lower : {x : ℤ} → r ≡ 2 → x ≡ W (nat_abs (lag_word ws e 0)) t_min -ℤ lag_word ws e 2 → (j : Call) → Serves k ws W j → bound x ≡ finding (rule r) j W e y
+  pub gives_lower : {x : ℤ} → x ≡ W (nat_abs (lag_word ws e 0)) t_min -ℤ lag_word ws e 2 → (j : Call) → Serves k ws W j → bound x ≡ finding lag_lower j W e y
   unfolding finding
-  gives_lower p q j h = rw (p, q, h.holds.lags_are)
+  gives_lower q j h = rw (q, h.holds.lags_are)
 
-  -- The rule's variant and its family are known.
-  pub gives_seen : (m b : Bool) (i : ℕ) {v : Sight} {f : Finding} {g : Family} → reservoir m b (family_of i) ≡ rule r → Views k.events (reservoir_of k.reservoir) m b e v → family_of i ≡ g → e < k.events → y < k.events → f ≡ seen_rule g v W y →
-      (j : Call) → Serves k ws W j → f ≡ finding (rule r) j W e y
+  -- A reservoir rule by its view.
+  pub gives_seen : (m b : Bool) (g : Family) {v : Sight} {f : Finding} → Views k.events (reservoir_of k.reservoir) m b e v → e < k.events → y < k.events → f ≡ seen_rule g v W y →
+      (j : Call) → Serves k ws W j → f ≡ finding (reservoir m b g) j W e y
   unfolding finding
-  gives_seen m b i {v} {g = g} p s q l n t j h =
-      let z = rw q at p in
+  gives_seen m b g {v} s l n t j h =
       let o = h.holds in
-      t ∙ rw (← z, s.is W, s.side_is) (ap (side_finding m (family_end g)) (sym (rule_here m b e W h (rw o.events_are l) g y (rw o.events_are n))))
+      t ∙ rw (s.is W, s.side_is) (ap (side_finding m (family_end g)) (sym (rule_here m b e W h (rw o.events_are l) g y (rw o.events_are n))))

@@ -1,43 +1,45 @@
-// What each of the fourteen rules gives on a board of windows, and what that does to the target's window.
+// What each of the rules gives on a board of windows, and what that does to the target's window.
 #![tactic(auto)]
 
 pub mod bounds; // bounds.rt: what the families of reservoir rules give in a view
-pub mod lags; // lags.rt: the lag table's words, rules 1 and 2
-pub mod numbers; // numbers.rt: the rules by number
+pub mod lags; // lags.rt: a lag, rules 1 and 2
+pub mod numbers; // numbers.rt: the rules and their numbers
 pub mod findings; // findings.rt: what each rule gives
 pub mod effects; // effects.rt: what that does to the target's window
 
-use tables::{Height, Time, Word};
+use tables::Word;
 
-// The earliest time found, if any.
-#[derive(Clone, Copy)]
-pub struct Soonest {
-    pub found: bool,
-    pub at: Time,
+// What a reservoir rule is about: the level's conflict, e's time, an amount.
+#[derive(Clone, Copy, PartialEq, Eq)]
+pub enum Family {
+    Level,
+    Time,
+    Height,
 }
 
-// The search for that time: the earliest found, and the latest at which the limit was found not to be reached.
-#[derive(Clone, Copy)]
-pub struct Search {
-    pub best: Soonest,
-    pub short: Soonest,
-}
-
-// Rules 3 to 14: the job or its mirror, before (strict) or by, and the family: 0 the level's conflict, 1 e's time, 2 an amount.
-#[derive(Clone, Copy)]
+// Rules 3 to 14: the job or its mirror, before (strict) or by, and the family.
+#[derive(Clone, Copy, PartialEq, Eq)]
 pub struct Variant {
     pub mirror: bool,
     pub strict: bool,
-    pub family: usize,
+    pub family: Family,
 }
 
-// What a rule gives: nothing, a conflict of the levels, a bound on a time or on an amount.
+// A rule: 1 and 2 of a lag; 3 to 14 of a reservoir; 17, in the mirror 18, of a set.
+#[derive(Clone, Copy, PartialEq, Eq)]
+pub enum Rule {
+    LagUpper,
+    LagLower,
+    Reservoir(Variant),
+    Total { mirror: bool },
+}
+
+// What a rule gives: nothing, a conflict of the levels, or a bound on its target.
 #[derive(Clone, Copy)]
 pub enum Finding {
     Nothing,
     Clash,
-    At(Time),
-    Of(Height),
+    Bound(Word),
 }
 
 // What a finding does to its target's window: nothing, a new end, a conflict.

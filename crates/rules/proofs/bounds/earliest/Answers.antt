@@ -1,18 +1,14 @@
-use mathlib.Core.Path.{◌≡◌, sym, subst}
-use mathlib.Core.Bool.{true, false}
-use native.Mathlib.Omega.{arith}
-use lib.Dec.{T}
 use Rattle.tables.specs.Board.{board}
 use Rattle.levels.specs.Values.{as_view, seen_by}
 use Rattle.rules.proofs.Bounding.{earliest_none, earliest_more}
 use Rattle.rules.proofs.bounds.earliest.Goals as goal
 
 pub loop-y-init : goal.loop-y-init
-loop-y-init c = let a = c.args in (omega arith, earliest_none (as_view a.view (board a.b.now)) (seen_by a.view (board a.b.now)), λ (q : false ≡ true). absurd (subst T (sym q) tt))
+loop-y-init c = let a = c.args in (earliest_none (as_view a.view (board a.b.now.words)) (seen_by a.view (board a.b.now.words)), tt)
 
 pub loop-y-preserved : goal.loop-y-preserved
 loop-y-preserved c =
     let a = c.args in
     let l = c.loop-y in
     let x = c.search_event-s.ensures in
-    (omega arith, earliest_more (as_view a.view (board a.b.now)) (seen_by a.view (board a.b.now)) l.y l.invariant.1 x.0, x.1)
+    (earliest_more (as_view a.view (board a.b.now.words)) (seen_by a.view (board a.b.now.words)) l.y l.invariant.0 x.0, x.1)

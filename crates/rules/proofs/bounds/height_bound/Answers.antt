@@ -8,24 +8,24 @@ use Rattle.levels.specs.Values.{as_view, seen_by}
 use Rattle.levels.proofs.Adding.{wider, apart, side_ranged, most_within}
 use Rattle.rules.proofs.bounds.height_bound.Goals as goal
 
-pub minus-others-requires : goal.minus-others-requires
-minus-others-requires c =
+pub sub-others-requires : goal.sub-others-requires
+sub-others-requires c =
     let a = c.args in
     let p = c.requires.0 in
-    let E = as_view a.view (board a.b.now) in
-    let W = seen_by a.view (board a.b.now) in
+    let E = as_view a.view (board a.b.now.words) in
+    let W = seen_by a.view (board a.b.now.words) in
     let r = side_ranged a.view.mirror p.ranged in (
       wider c.most.ensures (most_within E (e_min E W) (e_max E W) r p.opening_range) (omega arith),
       wider c.seen_h_max.ensures (r.range a.y c.requires.1 h_max) (omega arith),
     )
 
-pub minus-requires : goal.minus-requires
-minus-requires c =
+pub sub-requires : goal.sub-requires
+sub-requires c =
     let a = c.args in
     let p = c.requires.0 in
-    let E = as_view a.view (board a.b.now) in
-    let W = seen_by a.view (board a.b.now) in
+    let E = as_view a.view (board a.b.now.words) in
+    let W = seen_by a.view (board a.b.now.words) in
     let r = side_ranged a.view.mirror p.ranged in
     let level = wider {l = 1640000} c.most.ensures (most_within E (e_min E W) (e_max E W) r p.opening_range) (omega arith) in
     let h = wider {l = 9999} c.seen_h_max.ensures (r.range a.y c.requires.1 h_max) (omega arith) in
-    (wider refl p.limit_range (omega arith), apart c.minus-others.ensures level h (omega arith))
+    (wider refl p.limit_range (omega arith), apart c.sub-others.ensures level h (omega arith))

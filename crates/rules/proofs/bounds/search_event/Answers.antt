@@ -1,5 +1,5 @@
 -- `rules::bounds::search_event` keeps the earlier of the best time and y's, and the latest time that falls short. Assumes nothing.
-use mathlib.Core.Path.{refl}
+use mathlib.Core.Path.{sym, ◌∙◌}
 use Rattle.tables.specs.Board.{board}
 use Rattle.model.specs.Rules.{reached_at}
 use Rattle.levels.specs.Values.{as_view, seen_by}
@@ -9,8 +9,7 @@ use Rattle.rules.proofs.bounds.search_event.Goals as goal
 pub returns-then-falls_short : goal.returns-then-falls_short
 returns-then-falls_short c =
     let a = c.args in
-    let E = as_view a.view (board a.b.now) in
-    let W = seen_by a.view (board a.b.now) in
-    let at = c.starts-t.ensures in
-    let none = short_unreached E W a.y a.s.short c.requires.2 at c.falls_short.ensures c.if-falls_short.true in
-    (best_alone a.s.best.found (reached_at E W a.y) a.s.best.at.0 at c.is_beaten.ensures none refl, c.requires.2)
+    let E = as_view a.view (board a.b.now.words) in
+    let W = seen_by a.view (board a.b.now.words) in
+    let none = short_unreached E W a.y a.s.short c.requires.2 c.starts-t.ensures (sym c.falls_short.ensures ∙ c.if-falls_short.true) in
+    (best_alone a.s.best (reached_at E W a.y) _ none, c.requires.2)

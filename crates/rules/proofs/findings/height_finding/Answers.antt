@@ -9,4 +9,4 @@ pub side_height-requires : goal.side_height-requires
 side_height-requires c =
     let a = c.args in
     let p = c.requires.0 in
-    wider c.height_bound-h.ensures (bound_within (as_view a.view (board a.b.now)) a.y (side_ranged a.view.mirror p.ranged) p.limit_range p.opening_range c.requires.1) (omega arith)
+    wider c.height_bound-h.ensures (bound_within (as_view a.view (board a.b.now.words)) a.y (side_ranged a.view.mirror p.ranged) p.limit_range p.opening_range c.requires.1) (omega arith)
