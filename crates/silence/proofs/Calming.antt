@@ -336,10 +336,10 @@ all_calm_each n c W e d r l q =
 
 -- ---- lags
 
-pub kept_at : (ws : List ℤ) (W : Windows) (g : ℕ) {a b : ℕ} {top low t₁ t₂ t₃ t₄ : ℤ} {x₁ x₂ x₃ x₄ : Bool} → a ≡ nat_abs (lag_word ws g 0) → b ≡ nat_abs (lag_word ws g 1) →
+pub kept_at : (ws : List ℤ) (W : Windows) (g : ℕ) {a b : ℕ} {top low : ℤ} {x y : Bool} → a ≡ nat_abs (lag_word ws g 0) → b ≡ nat_abs (lag_word ws g 1) →
     top ≡ W (nat_abs (lag_word ws g 1)) t_max +ℤ lag_word ws g 2 → low ≡ W (nat_abs (lag_word ws g 0)) t_min -ℤ lag_word ws g 2 →
-    t₁ ≡ W a t_min → x₁ ≡ le_z t₁ top → t₂ ≡ W a t_max → x₂ ≡ le_z t₂ top → t₃ ≡ W b t_max → x₃ ≡ le_z low t₃ → t₄ ≡ W b t_min → x₄ ≡ le_z low t₄ → ((x₁ && x₂) && (x₃ && x₄)) ≡ lag_kept ws W g
-kept_at ws W g a b top low p₁ q₁ p₂ q₂ p₃ q₃ p₄ q₄ = rw (q₁, q₂, q₃, q₄, p₁, p₂, p₃, p₄, top, low, a, b)
+    x ≡ (le_z (W a t_min) top && le_z (W a t_max) top) → y ≡ (le_z low (W b t_max) && le_z low (W b t_min)) → (x && y) ≡ lag_kept ws W g
+kept_at ws W g a b top low p q = rw (p, q, top, low, a, b)
 
 pub lag_idle : (j : Job) (W : Windows) (g : ℕ) → lag_kept j.lag_table W g ≡ true → Idle lag_upper j W g (lag_a j g) × Idle lag_lower j W g (lag_b j g)
 unfolding finding

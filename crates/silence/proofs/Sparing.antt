@@ -9,6 +9,7 @@ use native.Mathlib.Numerals.{add-one}
 use native.Mathlib.Omega.{arith}
 use borrow.Author.Tests.{eq-eqb, ne_eqb, ltb-false}
 use lib.Dec.{T, ltb}
+use mir.Val.{bool_byte}
 use lib.IntN.{ℤ, pos, neg_ℤ, ◌-ℤ◌}
 use lib.Signed.{le_z, ◌≤ℤ◌, le_z_yes}
 use Rattle.integers.proofs.Linear.{ints, neg_law}
@@ -26,6 +27,15 @@ use Rattle.levels.proofs.Viewing.{here_view, seen_here, rule_here}
 use Rattle.silence.specs.Slack.{slack_of, spares, moves, may_move, count, may_be_moved, some_move}
 
 -- ---- counting
+
+-- A test as a number.
+pub byte_cond : (t : Bool) → bool_byte t ≡ cond t 1 0
+byte_cond true = refl
+byte_cond false = refl
+
+pub byte_small : (t : Bool) → bool_byte t ≤ 1
+byte_small true = omega arith
+byte_small false = omega arith
 
 pub count_none : (p : ℕ → Bool) → 0 ≡ count 0 p
 unfolding count

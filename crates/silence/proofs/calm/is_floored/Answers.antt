@@ -6,8 +6,8 @@ use Rattle.levels.proofs.Adding.{wider, side_ranged}
 use Rattle.silence.proofs.Calming.{floors_within, drain_within}
 use Rattle.silence.proofs.calm.is_floored.Goals as goal
 
-pub plus-floor-requires : goal.plus-floor-requires
-plus-floor-requires c =
+pub add-floor-requires : goal.add-floor-requires
+add-floor-requires c =
     let a = c.args in
     let r = side_ranged a.m c.requires.0 in
     let q = wider {l = 1000000} c.side_opening.ensures (opening_within a.m (reservoir_of a.c) c.requires.1) (omega arith) in (

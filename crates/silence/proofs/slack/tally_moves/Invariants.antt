@@ -1,6 +1,6 @@
 -- `silence::slack::tally_moves` counts event by event. The loop's invariant: the total is that of the first y events. Assumes nothing.
 use mathlib.Core.Path.{◌≡◌}
-use Prim.Native.Nat.{◌≤◌, ◌-◌}
+use Prim.Native.Nat.{◌≤◌}
 use Rattle.tables.specs.Board.{board}
 use Rattle.model.specs.View.{side}
 use Rattle.levels.specs.Values.{strict_at}
@@ -8,7 +8,4 @@ use Rattle.silence.specs.Slack.{may_move, count}
 use Rattle.silence.proofs.slack.tally_moves.Given as goal
 
 abbrev pub invariant-loop-y : goal.invariant-loop-y
-invariant-loop-y l = (l.y ≤ l.n) × (l.total ≡ count l.y (may_move (strict_at l.m l.strict l.later (board l.b)) (side l.m (board l.b)) (board l.b) l.u.0 l.v.0 l.k.0)) × (l.total ≤ l.y)
-
-abbrev pub decreases-loop-y : goal.decreases-loop-y
-decreases-loop-y l = l.n - l.y
+invariant-loop-y l = (l.total ≡ count l.y (may_move (strict_at l.m l.strict l.later (board l.b.words)) (side l.m (board l.b.words)) (board l.b.words) l.u.0 l.v.0 l.k.0)) × (l.total ≤ l.y)
