@@ -3,7 +3,7 @@
 use mathlib.Core.Path.{◌≡◌, refl, sym, ap, subst, ◌∙◌}
 use mathlib.Core.Bool.{Bool, true, false, not, cond, ◌&&◌, ◌||◌}
 use mathlib.Core.List.{List}
-use Prim.Native.Nat.{ℕ, zero, suc, ◌+◌, ◌/◌, ◌<◌, ◌≤◌}
+use Prim.Native.Nat.{ℕ, ◌+◌, ◌/◌, ◌<◌}
 use native.Mathlib.Omega.{arith}
 use native.Mathlib.Numerals.{add-one}
 use borrow.Author.Tests.{eqb-true, ne_eqb}
@@ -17,16 +17,16 @@ use Rattle.model.specs.Job.{End, t_min, t_max, h_min, h_max, Windows, Job as Cal
 use Rattle.model.specs.Standing.{span}
 use Rattle.model.specs.View.{side, side_value, side_end, View, view, seen, look}
 use Rattle.model.specs.Levels.{Place, sure, possible, never, place, e_min, e_max}
-use Rattle.model.specs.Rules.{Family, level, time, height, reservoir, rule, targeted, Effect, idle, narrows, fails, failed, is_narrowing}
+use Rattle.model.specs.Rules.{Family, level, time, height, lag_upper, lag_lower, reservoir, targeted, Effect, idle, narrows, fails, failed}
 use Rattle.model.specs.Facts.{lag_cites, first_late, last_early, left_out, surely_consumed, late, early, latest, quotes_top, spares, drops, family_cites, family_says, total_cites, quotes, quoted}
 use Rattle.model.proofs.Agree.{at_hand, cites_agree, says_agree}
 use Rattle.tables.specs.Job.{reservoir_of, Serves, Fit}
 use Rattle.tables.specs.declared.Job.{Job}
-use Rattle.tables.specs.declared.Time.{Time}
+use Rattle.tables.specs.declared.measures.Time.{Time}
 use Rattle.levels.specs.Values.{place_by, strict_at, as_view, seen_by, Views}
 use Rattle.levels.specs.declared.View.{View as Sight}
 use Rattle.levels.proofs.Viewing.{here_view, before_here, seen_here, view_here}
-use Rattle.rules.specs.Values.{family_of, effect_of}
+use Rattle.rules.specs.Values.{effect_of}
 use Rattle.rules.specs.declared.Effect.{Effect as Done}
 use Rattle.facts.specs.Quotes.{Any, lag_cited, lag_said, height_cited, level_cited, level_said, total_cited, set_cited, LagCites, LevelCites, Cites, Shows, TotalCites, Quotes}
 use Rattle.facts.specs.declared.LagCiting.{LagCiting}
@@ -141,28 +141,6 @@ any_none p = refl
 pub any_more : (p : ℕ → Bool) (y : ℕ) {x o r : Bool} → x ≡ any y p → o ≡ p y → r ≡ (x || o) → r ≡ any (y + 1) p
 unfolding any
 any_more p y a b d = rw (add-one y) (cc)
-
--- ---- what the effect and the family decide
-
-pub latest_other : (k : ℕ) (t : ℤ) (x : Effect) → (k ≡ 1 → ⊥) → t ≡ latest (family_of k) t x
-latest_other zero t x n = refl
-latest_other (suc zero) t x n = absurd (n refl)
-latest_other (suc (suc k)) t x n = refl
-
-pub top_tests : (k : ℕ) → not (eqb k 1) ≡ quotes_top (family_of k)
-top_tests zero = refl
-top_tests (suc zero) = refl
-top_tests (suc (suc k)) = rw (ne_eqb (suc (suc k)) 1 (λ e. omega arith))
-
-pub spares_low : (k : ℕ) (x : Effect) → k < 2 → false ≡ spares (family_of k) x
-spares_low zero x h = refl
-spares_low (suc zero) x h = refl
-spares_low (suc (suc k)) x h = absurd (omega arith)
-
-pub spares_high : (k : ℕ) (x : Effect) → 2 ≤ k → is_narrowing x ≡ spares (family_of k) x
-spares_high zero x h = absurd (omega arith)
-spares_high (suc zero) x h = absurd (omega arith)
-spares_high (suc (suc k)) x h = refl
 
 -- ---- a reservoir rule's slip
 
@@ -322,27 +300,27 @@ lag_quotes l j h z h_max = refl
 lag_known : {k : Job} {starts ends : Bool} {ws : List ℤ} {g : ℕ} {W : Windows} {c : LagCiting} → Fit k ws → g < length ws / 3 → LagCites starts ends ws g W c → (c.a < k.events) × (c.b < k.events)
 lag_known {g = g} f t l = let s = f.lag g t in (rw l.a_is s.real_a, rw l.b_is s.real_b)
 
-module _ {k : Job} {ws : List ℤ} (W : Windows) (r e y : ℕ) (x : Done) where
-  pub cites_by_upper : {c : LagCiting} → Fit k ws → e < length ws / 3 → r ≡ 1 → LagCites (failed (effect_of x)) true ws e W c → Cites k ws W r e y x (Lag c)
+module _ {k : Job} {ws : List ℤ} (W : Windows) (e y : ℕ) (x : Done) where
+  pub cites_by_upper : {c : LagCiting} → Fit k ws → e < length ws / 3 → LagCites (failed (effect_of x)) true ws e W c → Cites k ws W lag_upper e y x (Lag c)
   unfolding quotes quoted
-  cites_by_upper f t p l = record { known = lag_known f t l; cites = λ j h z m i. rw p (lag_quotes l j h.holds.lags_are z i); says = λ j h z m i t. rw p (lag_says l z i t) }
+  cites_by_upper f t l = record { known = lag_known f t l; cites = λ j h z m i. lag_quotes l j h.holds.lags_are z i; says = λ j h z m i t. lag_says l z i t }
 
-  pub cites_by_lower : {c : LagCiting} → Fit k ws → e < length ws / 3 → r ≡ 2 → LagCites true (failed (effect_of x)) ws e W c → Cites k ws W r e y x (Lag c)
+  pub cites_by_lower : {c : LagCiting} → Fit k ws → e < length ws / 3 → LagCites true (failed (effect_of x)) ws e W c → Cites k ws W lag_lower e y x (Lag c)
   unfolding quotes quoted
-  cites_by_lower f t p l = record { known = lag_known f t l; cites = λ j h z m i. rw p (lag_quotes l j h.holds.lags_are z i); says = λ j h z m i t. rw p (lag_says l z i t) }
+  cites_by_lower f t l = record { known = lag_known f t l; cites = λ j h z m i. lag_quotes l j h.holds.lags_are z i; says = λ j h z m i t. lag_says l z i t }
 
-  pub cites_by_side : (m b : Bool) (f : Family) {v : Sight} {c : LevelCiting} → e < k.events → reservoir m b f ≡ rule r → Views k.events (reservoir_of k.reservoir) m b e v → LevelCites f v W y (effect_of x) c → Cites k ws W r e y x (Level c)
+  pub cites_by_side : (m b : Bool) (f : Family) {v : Sight} {c : LevelCiting} → e < k.events → Views k.events (reservoir_of k.reservoir) m b e v → LevelCites f v W y (effect_of x) c → Cites k ws W (reservoir m b f) e y x (Level c)
   unfolding quotes quoted
-  cites_by_side m b f {v} there p s l =
+  cites_by_side m b f {v} there s l =
       let at : v.subject ≡ e = ap (λ (E : View). E.subject) (s.is W) in
       record {
         known = tt;
         cites = λ j h z n i.
             let o = h.holds in
-            l.cites z i ∙ rw (← p, s.is W, s.side_is, at) (sym (call_cites m b e W h (rw o.events_are there) f y (effect_of x) z (rw o.events_are n) (side_end m i)));
+            l.cites z i ∙ rw (s.is W, s.side_is, at) (sym (call_cites m b e W h (rw o.events_are there) f y (effect_of x) z (rw o.events_are n) (side_end m i)));
         says = λ j h z n i t.
             let o = h.holds in
-            l.says z i t ∙ rw (← p, s.is W, s.side_is, at) (ap (side_value m i) (sym (call_says m b e W h (rw o.events_are there) f (effect_of x) z (rw o.events_are n) (side_end m i))));
+            l.says z i t ∙ rw (s.is W, s.side_is, at) (ap (side_value m i) (sym (call_says m b e W h (rw o.events_are there) f (effect_of x) z (rw o.events_are n) (side_end m i))));
       }
 
 -- ---- a set's slip

@@ -3,7 +3,7 @@ use Rattle.std.specs.Prelude.{◌≡◌, Bool, true, false, not, cond, ◌&&◌,
 use Rattle.model.specs.Job.{End, t_min, t_max, h_min, h_max, Windows, lag_word, Job as Call, any, produces, consumes, in_set}
 use Rattle.model.specs.View.{side, side_end, side_value, View}
 use Rattle.model.specs.Levels.{place}
-use Rattle.model.specs.Rules.{Family, total, rule, targeted, Effect}
+use Rattle.model.specs.Rules.{Family, Rule, total, targeted, Effect}
 use Rattle.model.specs.Facts.{late, early, family_cites, family_says, quotes, quoted}
 use Rattle.tables.specs.Job.{Serves}
 use Rattle.tables.specs.declared.Job.{Job}
@@ -112,10 +112,10 @@ pub record LevelCites (f : Family) (v : Sight) (W : Windows) (y : ℕ) (x : Effe
   pub says : (z : ℕ) (k : End) → T (level_cited c W z k) → level_said c W z k ≡ side_value v.mirror k (family_says f (as_view v W) (seen_by v W) x z (side_end v.mirror k))
 
 -- c decides the facts of the slip of rule r with subject e, target y and effect x.
-pub record Cites (k : Job) (ws : List ℤ) (W : Windows) (r e y : ℕ) (x : Done) (c : Citing) : Type 0 where
+pub record Cites (k : Job) (ws : List ℤ) (W : Windows) (r : Rule) (e y : ℕ) (x : Done) (c : Citing) : Type 0 where
   pub known : Known k.events c
-  pub cites : (j : Call) → Serves k ws W j → (z : ℕ) → z < k.events → (l : End) → cites_of c W z l ≡ quotes (rule r) j W e y (effect_of x) z l
-  pub says : (j : Call) → Serves k ws W j → (z : ℕ) → z < k.events → (l : End) → T (cites_of c W z l) → says_of c W z l ≡ quoted (rule r) j W e y (effect_of x) z l
+  pub cites : (j : Call) → Serves k ws W j → (z : ℕ) → z < k.events → (l : End) → cites_of c W z l ≡ quotes r j W e y (effect_of x) z l
+  pub says : (j : Call) → Serves k ws W j → (z : ℕ) → z < k.events → (l : End) → T (cites_of c W z l) → says_of c W z l ≡ quoted r j W e y (effect_of x) z l
 
 -- Of the first n events the windows X show the amounts of those of a test as they are in W, and 0 for the others.
 pub record Shows (n : ℕ) (own : ℕ → Bool) (W X : Windows) : Type 0 where

@@ -1,33 +1,38 @@
--- `facts::premises::citing` holds what a slip quotes, by its rule's number. Assumes nothing.
+-- `facts::premises::citing` holds what a slip quotes, by its rule. Assumes nothing.
+use mathlib.Core.Path.{sym, ap}
 use Rattle.tables.specs.Board.{board}
-use Rattle.model.specs.Rules.{rule, own_end}
-use Rattle.rules.specs.Values.{family_of}
+use Rattle.model.specs.Rules.{own_end}
+use Prim.Native.Nat.{◌/◌, ◌<◌}
+use lib.ListN.{length}
+use Rattle.rules.specs.Values.{family_of, rule_of}
 use Rattle.levels.proofs.Viewing.{sighted}
 use Rattle.rules.proofs.Giving.{event_subject}
 use Rattle.facts.proofs.Quoting.{span_within, cites_by_upper, cites_by_lower, cites_by_side}
 use Rattle.facts.proofs.premises.citing.Goals as goal
 
-pub returns-then-r-eq1 : goal.returns-then-r-eq1
-returns-then-r-eq1 c =
+pub returns-in-LagUpper : goal.returns-in-LagUpper
+returns-in-LagUpper c =
     let a = c.args in
-    let p = c.if-r-eq1.true in
-    cites_by_upper (board a.b.now) a.r a.e a.y a.x c.requires.0.fit (rw p at c.requires.0.subject) p (rw c.has_failed.ensures at c.lag_citing.ensures)
+    let t : a.e < length a.lags.now / 3 = rw c.in-LagUpper.is at c.requires.0.subject in
+    rw c.in-LagUpper.is (cites_by_upper (board a.b.now.words) a.e a.y a.x c.requires.0.fit t (rw c.has_failed.ensures at c.lag_citing.ensures))
 
-pub returns-then-r-eq2 : goal.returns-then-r-eq2
-returns-then-r-eq2 c =
+pub returns-in-LagLower : goal.returns-in-LagLower
+returns-in-LagLower c =
     let a = c.args in
-    let p = c.if-r-eq2.true in
-    cites_by_lower (board a.b.now) a.r a.e a.y a.x c.requires.0.fit (rw p at c.requires.0.subject) p (rw c.has_failed-then-r-eq2.ensures at c.lag_citing-then-r-eq2.ensures)
+    let t : a.e < length a.lags.now / 3 = rw c.in-LagLower.is at c.requires.0.subject in
+    rw c.in-LagLower.is (cites_by_lower (board a.b.now.words) a.e a.y a.x c.requires.0.fit t (rw c.has_failed-in-LagLower.ensures at c.lag_citing-in-LagLower.ensures))
 
 pub level_citing-requires : goal.level_citing-requires
 level_citing-requires c =
     let a = c.args in
-    let v = c.variant-v in
-    let p = sighted c.rule_view.ensures c.requires.0.fit.cage c.requires.0.windows (event_subject v.result.mirror v.result.strict (family_of v.result.family) a.k a.lags.now v.ensures c.requires.0.subject) in
-    (p.ranged, p.subject, λ w q. span_within (own_end (rule a.r)) w (c.requires.1.range w q))
+    let v = c.in-Reservoir.v in
+    let e = event_subject v.mirror v.strict (family_of v.family) a.k a.lags.now (ap rule_of (sym c.in-Reservoir.is)) c.requires.0.subject in
+    let p = sighted c.view.ensures c.requires.0.fit.cage c.requires.0.windows e in
+    (p.ranged, p.subject, λ w q. span_within (own_end (rule_of a.r)) w (c.requires.1.range w q))
 
-pub returns : goal.returns
-returns c =
+pub returns-in-Reservoir : goal.returns-in-Reservoir
+returns-in-Reservoir c =
     let a = c.args in
-    let v = c.variant-v in
-    cites_by_side (board a.b.now) a.r a.e a.y a.x v.result.mirror v.result.strict (family_of v.result.family) (event_subject v.result.mirror v.result.strict (family_of v.result.family) a.k a.lags.now v.ensures c.requires.0.subject) v.ensures c.rule_view.ensures c.level_citing.ensures
+    let v = c.in-Reservoir.v in
+    let e = event_subject v.mirror v.strict (family_of v.family) a.k a.lags.now (ap rule_of (sym c.in-Reservoir.is)) c.requires.0.subject in
+    rw c.in-Reservoir.is (cites_by_side (board a.b.now.words) a.e a.y a.x v.mirror v.strict (family_of v.family) e c.view.ensures c.level_citing.ensures)

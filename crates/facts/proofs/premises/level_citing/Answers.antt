@@ -12,22 +12,22 @@ use Rattle.facts.proofs.premises.level_citing.Goals as goal
 pub first_late-requires : goal.first_late-requires
 first_late-requires c =
     let a = c.args in
-    wider c.family_latest-to.ensures
-    (latest_within (family_of a.family) c.e_max.result.0 (effect_of a.x)
+    wider c.latest-to.ensures
+    (latest_within (family_of a.f) c.e_max.result.0 (effect_of a.x)
     (wider c.e_max.ensures ((side_ranged a.view.mirror c.requires.0).range a.view.subject c.requires.1 t_max) (omega arith)) c.requires.2)
     (omega arith)
 
 pub returns : goal.returns
 returns c =
     let a = c.args in
-    let f = family_of a.family in
+    let f = family_of a.f in
     let x = effect_of a.x in
-    let to = c.family_latest-to in
+    let to = c.latest-to in
     let o = c.others-o in
     let top = c.quotes_top-top in
     let late = c.late_before in
     let next = c.first_late in
     let last = c.last_early in
-    level_cites a.view f (board a.b.now) a.y x c.e_min-from.result to.result next.result last.result o.result.early top.result o.result.late
+    level_cites a.view f (board a.b.now.words) a.y x c.e_min-from.result to.result next.result last.result o.result.early top.result o.result.late
     c.spares.result c.e_min-from.ensures (to.ensures ∙ ap (λ t. latest f t x) c.e_max.ensures)
     (next.ensures ∙ ap (λ b. first_late b to.result.0) late.ensures) last.ensures o.ensures top.ensures c.spares.ensures
