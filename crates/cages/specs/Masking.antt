@@ -1,6 +1,6 @@
 -- A board as the events of one cage see it.
-use Rattle.std.specs.Prelude.{◌≡◌, Bool, cond, List, ℕ, ◌+◌, ◌*◌, ◌<◌, ◌≤◌, eqb, ℤ, pos, nat_abs, length, set, ◌≤ℤ◌}
-use Rattle.model.specs.Job.{End, t_min, t_max, h_min, h_max, word, cage_word}
+use Rattle.std.specs.Prelude.{◌≡◌, Bool, cond, List, ℕ, ◌*◌, ◌<◌, ◌≤◌, eqb, ℤ, pos, nat_abs, length, ◌≤ℤ◌}
+use Rattle.model.specs.Job.{End, cage_word}
 use Rattle.model.specs.View.{shown}
 use Rattle.tables.specs.Board.{Whole, board}
 

@@ -6,7 +6,7 @@ use mathlib.Core.List.{List}
 use Prim.Native.Nat.{ℕ, ◌+◌, ◌/◌, ◌<◌}
 use native.Mathlib.Omega.{arith}
 use native.Mathlib.Numerals.{add-one}
-use borrow.Author.Tests.{eqb-true, ne_eqb}
+use borrow.Author.Tests.{eqb-true}
 use lib.Dec.{T, eqb}
 use lib.IntN.{ℤ, pos, neg_ℤ}
 use lib.ListN.{length}
@@ -17,18 +17,18 @@ use Rattle.model.specs.Job.{End, t_min, t_max, h_min, h_max, Windows, Job as Cal
 use Rattle.model.specs.Standing.{span}
 use Rattle.model.specs.View.{side, side_value, side_end, View, view, seen, look}
 use Rattle.model.specs.Levels.{Place, sure, possible, never, place, e_min, e_max}
-use Rattle.model.specs.Rules.{Family, level, time, height, lag_upper, lag_lower, reservoir, targeted, Effect, idle, narrows, fails, failed}
-use Rattle.model.specs.Facts.{lag_cites, first_late, last_early, left_out, surely_consumed, late, early, latest, quotes_top, spares, drops, family_cites, family_says, total_cites, quotes, quoted}
+use Rattle.model.specs.Rules.{Family, level, time, height, lag_upper, lag_lower, reservoir, Effect, idle, narrows, fails, failed}
+use Rattle.model.specs.Facts.{lag_cites, first_late, last_early, left_out, surely_consumed, latest, quotes_top, spares, drops, family_cites, family_says, total_cites, quotes, quoted}
 use Rattle.model.proofs.Agree.{at_hand, cites_agree, says_agree}
 use Rattle.tables.specs.Job.{reservoir_of, Serves, Fit}
 use Rattle.tables.specs.declared.Job.{Job}
 use Rattle.tables.specs.declared.measures.Time.{Time}
-use Rattle.levels.specs.Values.{place_by, strict_at, as_view, seen_by, Views}
+use Rattle.levels.specs.Values.{strict_at, as_view, seen_by, Views}
 use Rattle.levels.specs.declared.View.{View as Sight}
 use Rattle.levels.proofs.Viewing.{here_view, before_here, seen_here, view_here}
 use Rattle.rules.specs.Values.{effect_of}
 use Rattle.rules.specs.declared.Effect.{Effect as Done}
-use Rattle.facts.specs.Quotes.{Any, lag_cited, lag_said, height_cited, level_cited, level_said, total_cited, set_cited, LagCites, LevelCites, Cites, Shows, TotalCites, Quotes}
+use Rattle.facts.specs.Quotes.{Any, lag_cited, lag_said, height_cited, level_cited, level_said, total_cited, set_cited, LagCites, LevelCites, Cites, Shows, TotalCites}
 use Rattle.facts.specs.declared.LagCiting.{LagCiting}
 use Rattle.facts.specs.declared.LevelCiting.{LevelCiting}
 use Rattle.facts.specs.declared.TotalCiting.{TotalCiting}
@@ -36,101 +36,9 @@ use Rattle.facts.specs.declared.Citing.TheVariants.{Lag, Level, Total}
 
 -- ---- the tests for one event
 
-pub left_out_tests : (s p : Bool) (h : ℤ) → ((not s && not p) && produces h) ≡ left_out (place_by s p) h
-left_out_tests true p h = refl
-left_out_tests false true h = refl
-left_out_tests false false h = refl
-
-pub surely_tests : (s p : Bool) (h : ℤ) → (s && consumes h) ≡ surely_consumed (place_by s p) h
-surely_tests true p h = refl
-surely_tests false true h = refl
-surely_tests false false h = refl
-
 or_false : (b : Bool) → (b || false) ≡ b
 or_false true = refl
 or_false false = refl
-
--- e's own fact, or another's.
-own_or : (t a b : Bool) → ((t && a) || (not t && b)) ≡ cond t a (not t && b)
-own_or true a b = or_false a
-own_or false a b = refl
-
-module _ (E : View) (W : Windows) (u v : ℤ) (y : ℕ) {p : Place} {h : ℤ} (at : p ≡ place E W u v y) (high : h ≡ W y h_max) where
-  pub early_at : {r : Bool} → r ≡ surely_consumed p h → (not (eqb y E.subject) && r) ≡ early E W u v y
-  early_at q = cc
-
-  pub late_at : {r : Bool} → r ≡ left_out p h → (not (eqb y E.subject) && r) ≡ late E W u v y
-  late_at q = cc
-
-module _ (c : LevelCiting) (W : Windows) (z : ℕ) {p : Place} {h : ℤ} (at : p ≡ place (as_view c.view W) (seen_by c.view W) c.from.0 c.to.0 z) (high : h ≡ seen_by c.view W z h_max) where
-  pub lower_at : {r : Bool} → r ≡ left_out p h → ((eqb z c.view.subject && c.starts) || (not (eqb z c.view.subject) && r)) ≡ level_cited c W z t_min
-  lower_at q = own_or (eqb z c.view.subject) c.starts _ ∙ rw (late_at (as_view c.view W) (seen_by c.view W) c.from.0 c.to.0 z at high q)
-
-  pub upper_at : {r : Bool} → r ≡ surely_consumed p h → ((eqb z c.view.subject && c.ends) || (not (eqb z c.view.subject) && r)) ≡ level_cited c W z t_max
-  upper_at q = own_or (eqb z c.view.subject) c.ends _ ∙ rw (early_at (as_view c.view W) (seen_by c.view W) c.from.0 c.to.0 z at high q)
-
-  pub height_at : {r : Bool} → r ≡ targeted p h → (not (c.spares && eqb z c.target) && r) ≡ height_cited c W z
-  height_at q = cc
-
--- ---- another event than e
-
-made_lower : (s p : Bool) (h : ℤ) → produces h ≡ true → not (s || p) ≡ left_out (place_by s p) h
-made_lower true p h e = refl
-made_lower false true h e = refl
-made_lower false false h e = sym e
-
-made_upper : (s p : Bool) (h : ℤ) → produces h ≡ true → false ≡ surely_consumed (place_by s p) h
-made_upper true p h e = let t : consumes h ≡ false = omega ints in sym t
-made_upper false true h e = refl
-made_upper false false h e = refl
-
-made_height : (s p : Bool) (h : ℤ) → produces h ≡ true → (s || p) ≡ targeted (place_by s p) h
-made_height true p h e = let t : consumes h ≡ false = omega ints in rw (t, e)
-made_height false true h e = sym e
-made_height false false h e = refl
-
-taken_lower : (s p : Bool) (h : ℤ) → produces h ≡ false → false ≡ left_out (place_by s p) h
-taken_lower true p h e = refl
-taken_lower false true h e = refl
-taken_lower false false h e = sym e
-
-taken_height : (s p : Bool) (h : ℤ) → produces h ≡ false → surely_consumed (place_by s p) h ≡ targeted (place_by s p) h
-taken_height true p h e = rw e (sym (or_false (consumes h)))
-taken_height false true h e = sym e
-taken_height false false h e = refl
-
-module _
-    (c : LevelCiting) (W : Windows) (z : ℕ) (another : z ≡ c.view.subject → ⊥) (s p : Bool) (h : ℤ)
-    (at : place_by s p ≡ place (as_view c.view W) (seen_by c.view W) c.from.0 c.to.0 z) (high : h ≡ seen_by c.view W z h_max)
-  where
-    lower_other : level_cited c W z t_min ≡ left_out (place_by s p) h
-    lower_other = rw (← at, ← high, ne_eqb z c.view.subject another)
-
-    upper_other : level_cited c W z t_max ≡ surely_consumed (place_by s p) h
-    upper_other = rw (← at, ← high, ne_eqb z c.view.subject another)
-
-    height_other : height_cited c W z ≡ (not (c.spares && eqb z c.target) && targeted (place_by s p) h)
-    height_other = rw (← at, ← high)
-
-    pub quotes_made : {t : Bool} → t ≡ produces h → t ≡ true →
-        Quotes c W z (record { lower = not (s || p); upper = false; height = not (c.spares && eqb z c.target) && (s || p) })
-    quotes_made a b =
-        let e : produces h ≡ true = sym a ∙ b in
-        record {
-          lower = made_lower s p h e ∙ sym lower_other;
-          upper = made_upper s p h e ∙ sym upper_other;
-          height = rw (made_height s p h e) (sym height_other);
-        }
-
-    pub quotes_taken : {t r : Bool} → t ≡ produces h → t ≡ false → r ≡ surely_consumed (place_by s p) h →
-        Quotes c W z (record { lower = false; upper = r; height = not (c.spares && eqb z c.target) && r })
-    quotes_taken a b k =
-        let e : produces h ≡ false = sym a ∙ b in
-        record {
-          lower = taken_lower s p h e ∙ sym lower_other;
-          upper = k ∙ sym upper_other;
-          height = rw (k, taken_height s p h e) (sym height_other);
-        }
 
 -- ---- over all events
 

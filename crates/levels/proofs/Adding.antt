@@ -1,7 +1,7 @@
 -- What an event adds, and the sums of it, as the loops of `levels::levels` make them.
 -- Assumes nothing.
 use mathlib.Core.Path.{◌≡◌, refl, sym, ap, ◌∙◌}
-use mathlib.Core.Bool.{Bool, true, false, cond, ◌&&◌, ◌||◌}
+use mathlib.Core.Bool.{Bool, true, false, cond}
 use Prim.Native.Nat.{ℕ, ◌+◌, ◌<◌, ◌≤◌}
 use native.Mathlib.Omega.{arith}
 use native.Mathlib.Numerals.{add-one}
@@ -17,28 +17,7 @@ use Rattle.model.specs.Job.{End, t_min, t_max, h_min, h_max, Windows, ahead, pro
 use Rattle.model.specs.Standing.{span, Ranged}
 use Rattle.model.specs.View.{side, View}
 use Rattle.model.specs.Levels.{Place, sure, possible, never, placed, place, e_min, e_max, stands, gain, gains, sure_gain, most_in, most, sure_part}
-use Rattle.levels.specs.Values.{place_by, other_gains}
-use Rattle.levels.proofs.Placing.{side_early, side_late}
-
-gain_tests : (s p : Bool) (h : ℤ) → cond (s || (p && produces h)) h (pos 0) ≡ gain (place_by s p) h
-gain_tests true p h = refl
-gain_tests false true h = refl
-gain_tests false false h = refl
-
-pub gain_tested : (s p : Bool) (h : ℤ) {made : Bool} {r : ℤ} → made ≡ produces h → r ≡ cond (s || (p && made)) h (pos 0) → r ≡ gain (place_by s p) h
-gain_tested s p h e q = q ∙ rw e (gain_tests s p h)
-
--- The same on a side, whose times are the job's.
-pub other_at : (m : Bool) (s : ℕ → Bool) (W : Windows) (u v : ℤ) (y : ℕ) {late early h r : ℤ} {t x z : Bool} {p : Place} →
-    t ≡ s y → late ≡ W y t_max → x ≡ ahead t late u → early ≡ W y t_min → z ≡ ahead t early v → p ≡ placed false t x z → h ≡ side m W y h_max → r ≡ gain p h →
-    r ≡ other_gains s (side m W) u v y
-other_at m s W u v y t a b c d e f g = let i = side_early m W y in let j = side_late m W y in cc
-
-pub own_none : {t : Bool} (s : Bool) (h : ℤ) → t ≡ s → t ≡ true → pos 0 ≡ cond s (pos 0) h
-own_none s h p q = rw (sym p ∙ q)
-
-pub own_all : {t : Bool} (s : Bool) {r : ℤ} (h : ℤ) → t ≡ s → t ≡ false → r ≡ h → r ≡ cond s (pos 0) h
-own_all s h p q r = rw (sym p ∙ q) r
+use Rattle.levels.specs.Values.{other_gains}
 
 -- ---- ranges
 
@@ -153,9 +132,6 @@ sure_level E W {u} g p q =
     term y l =
         rw (never_ahead (E.before y) (W y t_min) (g.range y l t_min))
         (sure_alone (eqb y E.subject) (E.before y) (ahead (E.before y) (W y t_max) (e_min E W)) (ahead (E.before y) (W y t_min) (e_max E W)) (W y h_max))
-
-pub most_at : (E : View) (W : Windows) {u v r : ℤ} → u ≡ e_min E W → v ≡ e_max E W → r ≡ most_in E W u v → r ≡ most E W
-most_at E W p q r = rw (p, q) at r
 
 -- A bound of rules 5 and 11 is within 2,650,000 of 0.
 pub bound_within : (E : View) {W : Windows} (y : ℕ) → Ranged E.events W → Within E.limit 1000000 → Within E.opening 1000000 → y < E.events → Within (E.limit -ℤ (most E W -ℤ W y h_max)) 2650000

@@ -1,13 +1,13 @@
 -- Views as the code makes them: they are the definitions', and their numbers are in range.
 -- Assumes nothing.
-use mathlib.Core.Path.{◌≡◌, refl, sym, ap, ap₂, ◌∙◌}
+use mathlib.Core.Path.{◌≡◌, sym, ap, ap₂, ◌∙◌}
 use mathlib.Core.Bool.{Bool, true, false, not, ◌&&◌, ◌||◌}
 use mathlib.Core.List.{List}
 use Prim.Native.Nat.{ℕ, ◌<◌}
 use lib.IntN.{ℤ, pos}
 use Rattle.integers.specs.Range.{Within, eq_z}
 use Rattle.integers.proofs.Linear.{ints, neg_law}
-use Rattle.model.specs.Job.{h_min, h_max, Windows, Reservoir, Job, events, home}
+use Rattle.model.specs.Job.{h_max, Windows, Reservoir, Job, events, home}
 use Rattle.model.specs.Standing.{SaneCage, Ranged}
 use Rattle.model.specs.View.{side_value, side, side_limit, View, view_of, view, seen}
 use Rattle.model.specs.Levels.{most}
@@ -16,17 +16,8 @@ use Rattle.model.proofs.Agree.{Agree, at_hand, most_agree, family_rule_agree}
 use Rattle.tables.specs.Job.{reservoir_of, Serves}
 use Rattle.tables.specs.declared.Job.{Job as Code}
 use Rattle.tables.proofs.Holding.{home_same, seen_side}
-use Rattle.levels.specs.Values.{strict_at, Views, Sighted}
+use Rattle.levels.specs.Values.{Views, Sighted}
 use Rattle.levels.specs.declared.View.{View as Sight}
-
--- Both amounts are turned alike.
-pub height_side : (m : Bool) (v : ℤ) → side_value m h_min v ≡ side_value m h_max v
-height_side true v = refl
-height_side false v = refl
-
-pub view_path : (n : ℕ) (c : Reservoir) (m b : Bool) (e : ℕ) {t : Bool} {l q : ℤ} → t ≡ eq_z c.cover (pos 0) → l ≡ side_limit m c → q ≡ side_value m h_max c.initial →
-    (W : Windows) → ◌≡◌ {A = View} (record { subject = e; events = n; limit = l; opening = q; before = strict_at m b t W }) (view_of n c (λ y. W y h_max) m b e)
-view_path n c m b e t p q W = rw (t, p, q)
 
 pub limit_within : (m : Bool) (c : Reservoir) → SaneCage c → Within (side_limit m c) 1000000
 limit_within true c s = let h = s.max_range in omega (ints, neg_law c.max_level)

@@ -7,12 +7,9 @@ use Prim.Native.Nat.{ℕ, ◌/◌, ◌<◌}
 use native.Mathlib.Omega.{arith}
 use lib.IntN.{ℤ, nat_abs, ◌+ℤ◌, ◌-ℤ◌}
 use lib.ListN.{length}
-use lib.Signed.{lt_z}
-use Rattle.model.specs.Job.{t_min, t_max, h_min, h_max, Windows, lag_word, Job as Call}
+use Rattle.model.specs.Job.{t_min, t_max, Windows, lag_word, Job as Call}
 use Rattle.model.specs.Standing.{Ranged}
-use Rattle.model.specs.View.{side_value}
-use Rattle.model.specs.Levels.{stands, most}
-use Rattle.model.specs.Rules.{Finding, nothing, clash, bound, Family, level, time, height, Rule, lag_upper, lag_lower, reservoir, finding, time_rule, targeted, side_finding, family_end}
+use Rattle.model.specs.Rules.{Finding, nothing, clash, bound, Family, time, Rule, lag_upper, lag_lower, reservoir, finding, time_rule, side_finding, family_end}
 use Rattle.tables.specs.Job.{reservoir_of, Serves, Fit}
 use Rattle.tables.specs.declared.Job.{Job}
 use Rattle.levels.specs.Values.{as_view, seen_by, Views}
@@ -36,21 +33,8 @@ side_time false clash = refl
 side_time false (bound v) = refl
 
 module _ (v : Sight) (W : Windows) where
-  pub level_yes : {t : Bool} → t ≡ lt_z (most (as_view v W) (seen_by v W)) v.limit.0 → t ≡ true → clash ≡ seen_rule level v W v.subject
-  level_yes p q = rw (sym p ∙ q)
-
-  pub level_no : {t : Bool} → t ≡ lt_z (most (as_view v W) (seen_by v W)) v.limit.0 → t ≡ false → nothing ≡ seen_rule level v W v.subject
-  level_no p q = rw (sym p ∙ q)
-
   pub time_is : {f : Finding} → f ≡ time_rule (as_view v W) (seen_by v W) → f ≡ seen_rule time v W v.subject
   time_is p = p ∙ sym (side_time v.mirror (time_rule (as_view v W) (seen_by v W)))
-
-  pub height_yes : (y : ℕ) {t : Bool} {x r : ℤ} → t ≡ targeted (stands (as_view v W) (seen_by v W) y) (seen_by v W y h_max) → t ≡ true →
-      x ≡ v.limit.0 -ℤ (most (as_view v W) (seen_by v W) -ℤ seen_by v W y h_max) → r ≡ side_value v.mirror h_min x → bound r ≡ seen_rule height v W y
-  height_yes y p q x r = rw (sym p ∙ q) (ap bound (rw x at r))
-
-  pub height_no : (y : ℕ) {t : Bool} → t ≡ targeted (stands (as_view v W) (seen_by v W) y) (seen_by v W y h_max) → t ≡ false → nothing ≡ seen_rule height v W y
-  height_no y p q = rw (sym p ∙ q)
 
 -- ---- in a job
 

@@ -24,7 +24,6 @@ use Rattle.model.proofs.Levels.{gain_possible}
 use Rattle.model.proofs.Silence.{Idle, level_idle, time_idle, early_most, spared_idle, Quiet}
 use Rattle.tables.specs.Job.{reservoir_of, Serves}
 use Rattle.tables.specs.declared.Job.{Job as Code}
-use Rattle.levels.proofs.Placing.{side_early, side_late}
 use Rattle.levels.proofs.Viewing.{here_view}
 use Rattle.levels.proofs.Adding.{kept_within, side_ranged, within_sum, own_term, other_term}
 use Rattle.silence.specs.Calm.{reaches_early, floor_gain, floor_of, larger, spread_of, floored, calm, drain, deep, ordered, all_calm, lag_kept}
@@ -35,22 +34,12 @@ use Rattle.silence.proofs.Sparing.{width_side, idle_here}
 pub early_at : (E : View) (X : Windows) {u v l : ℤ} {o r : Bool} → u ≡ e_min E X → v ≡ e_max E X → o ≡ le_z u v → l ≡ most_in E X u u → r ≡ le_z E.limit l → (o && r) ≡ reaches_early E X
 early_at E X a b o l r = rw (o, r, l, a, b)
 
-pub floor_at : (m : Bool) (W : Windows) (u : ℤ) (y : ℕ) {from to h r : ℤ} {a g t : Bool} → from ≡ W y t_min → a ≡ lt_z from u → to ≡ W y t_max → g ≡ le_z to u → h ≡ side m W y h_max → t ≡ produces h →
-    r ≡ cond ((t && a) || (not t && g)) h (pos 0) → r ≡ floor_gain (side m W) u y
-floor_at m W u y a b c d e f g = let i = side_early m W y in let j = side_late m W y in cc
-
 pub floor_within : {n : ℕ} {W : Windows} (u : ℤ) (y : ℕ) → Ranged n W → y < n → Within (floor_gain W u y) 9999
 floor_within {n} {W} u y r l =
     kept_within ((produces (W y h_max) && lt_z (W y t_min) u) || (not (produces (W y h_max)) && le_z (W y t_max) u)) (W y h_max) (r.range y l h_max)
 
 pub floors_within : {n : ℕ} (i : ℕ) {q : ℤ} {W : Windows} (u : ℤ) → Ranged n W → Within q 1000000 → i ≤ n → Within (q +ℤ sum i (floor_gain W u)) 1640000
 floors_within {n} i {q} {W} u r d l = within_sum i n q (floor_gain W u) l r.few d (λ y b. floor_within u y r b)
-
-pub own_makes : {h x : ℤ} {t : Bool} → h ≡ x → t ≡ produces h → t ≡ true → pos 0 ≡ cond (produces x) (pos 0) x
-own_makes p q r = rw (← p, ← q, r)
-
-pub own_takes : {h x : ℤ} {t : Bool} → h ≡ x → t ≡ produces h → t ≡ false → h ≡ cond (produces x) (pos 0) x
-own_takes p q r = rw (← p, ← q, r)
 
 own_range : (x : ℤ) → Within x 9999 → Within (cond (produces x) (pos 0) x) 9999
 own_range x w = go (produces x)
@@ -61,29 +50,6 @@ own_range x w = go (produces x)
 
 pub drain_within : {n : ℕ} {W : Windows} (y : ℕ) → Ranged n W → y < n → Within (drain W y) 9999
 drain_within {n} {W} y r l = own_range (W y h_max) (r.range y l h_max)
-
-pub drains_within : {n : ℕ} (i : ℕ) {q : ℤ} {W : Windows} → Ranged n W → Within q 1000000 → i ≤ n → Within (q +ℤ sum i (drain W)) 1640000
-drains_within {n} i {q} {W} r d l = within_sum i n q (drain W) l r.few d (λ y b. drain_within y r b)
-
-pub floored_at : (m : Bool) (n : ℕ) (c : Reservoir) (W : Windows) (e : ℕ) (d : ℤ) {q u all own floor limit edge : ℤ} {t : Bool} → q ≡ side_value m h_max c.initial → u ≡ W e t_min →
-    all ≡ q +ℤ sum n (floor_gain (side m W) u) → own ≡ drain (side m W) e → floor ≡ all +ℤ own → limit ≡ side_limit m c → edge ≡ limit +ℤ d → t ≡ le_z edge floor → t ≡ floored m n c W e d
-floored_at m n c W e d q u a o f l g t = let i = u ∙ sym (side_early m W e) in t ∙ rw (g, f, a, o, i, q, l)
-
-pub deep_at : (m : Bool) (n : ℕ) (c : Reservoir) (W : Windows) (d : ℤ) {q least limit edge : ℤ} {t : Bool} → q ≡ side_value m h_max c.initial → least ≡ q +ℤ sum n (drain (side m W)) → limit ≡ side_limit m c → edge ≡ limit +ℤ d → t ≡ le_z edge least → t ≡ deep m n c W d
-deep_at m n c W d q a l g t = t ∙ rw (g, a, q, l)
-
-module _ (n : ℕ) (c : Reservoir) (W : Windows) (e : ℕ) (d : ℤ) where
-  pub calm_yes : {f g o : Bool} {u v : ℤ} → f ≡ floored false n c W e d → f ≡ true → g ≡ floored true n c W e d → u ≡ W e t_min → v ≡ W e t_max → o ≡ le_z u v → (g && o) ≡ calm n c W e d
-  calm_yes p q r u v o = rw (← p, q, r, o, u, v)
-
-  pub calm_no : {f : Bool} → f ≡ floored false n c W e d → f ≡ false → false ≡ calm n c W e d
-  calm_no p q = rw (← p, q)
-
-pub larger_yes : (a b : ℤ) {t : Bool} → t ≡ lt_z a b → t ≡ true → b ≡ larger a b
-larger_yes a b p q = rw (sym p ∙ q)
-
-pub larger_no : (a b : ℤ) {t : Bool} → t ≡ lt_z a b → t ≡ false → a ≡ larger a b
-larger_no a b p q = rw (sym p ∙ q)
 
 pub larger_within : (a b : ℤ) {r : ℤ} {k : ℕ} → r ≡ larger a b → Within a k → Within b k → Within r k
 larger_within a b {r} {k} e v w = rw e (go (lt_z a b))
@@ -290,12 +256,6 @@ ordered_none W = refl
 pub ordered_more : (W : Windows) (y : ℕ) {u v : ℤ} {a o : Bool} → a ≡ ordered y W → u ≡ W y t_min → v ≡ W y t_max → o ≡ le_z u v → (a && o) ≡ ordered (y + 1) W
 unfolding ordered
 ordered_more W y a u v o = rw (add-one y, a, o, u, v)
-
-pub reach_within : (d : ℤ) {r : ℤ} → r ≡ d +ℤ pos 9999 → Within d 20000 → Within r 30000
-reach_within d e w = omega (ints, add_law d (pos 9999))
-
-pub all_calm_at : (n : ℕ) (c : Reservoir) (W : Windows) (d : ℤ) {r : ℤ} {f g o : Bool} → r ≡ d +ℤ pos 9999 → f ≡ deep false n c W r → g ≡ deep true n c W r → o ≡ ordered n W → (f && (g && o)) ≡ all_calm n c W d
-all_calm_at n c W d r f g o = rw (f, g, o, r)
 
 ordered_each : (n : ℕ) (W : Windows) (e : ℕ) → e < n → T (ordered n W) → T (le_z (W e t_min) (W e t_max))
 unfolding ordered

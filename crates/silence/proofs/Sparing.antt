@@ -22,9 +22,8 @@ use Rattle.model.proofs.Agree.{effect_agree}
 use Rattle.model.proofs.Silence.{Idle, seen_idle, untargeted_idle, spared_idle}
 use Rattle.tables.specs.Job.{Serves}
 use Rattle.tables.specs.declared.Job.{Job as Code}
-use Rattle.levels.proofs.Placing.{side_early, side_late}
 use Rattle.levels.proofs.Viewing.{here_view, seen_here, rule_here}
-use Rattle.silence.specs.Slack.{slack_of, spares, moves, may_move, count, may_be_moved, some_move}
+use Rattle.silence.specs.Slack.{slack_of, spares, moves, count, may_be_moved, some_move}
 
 -- ---- counting
 
@@ -71,24 +70,6 @@ both_count (suc n) p y e a b d = go (ℕ_discrete y n) (ℕ_discrete e n) (λ l 
         let o = one_counts n p y (omega arith) in
         omega arith
     go (no i) (no k) rec = let o = rec (omega arith) (omega arith) in omega arith
-
--- ---- the tests as the code makes them
-
-pub spared_yes : (t x : Bool) {s : Bool} → s ≡ t → s ≡ true → false ≡ (not t && x)
-spared_yes t x p q = rw (sym p ∙ q)
-
-pub spared_no : (t x : Bool) {s r : Bool} → s ≡ t → s ≡ false → r ≡ x → r ≡ (not t && x)
-spared_no t x p q r = rw (sym p ∙ q) r
-
--- y's times are the same on both sides.
-pub may_at : (m : Bool) (s : ℕ → Bool) (W : Windows) (u v k : ℤ) (y : ℕ) {late early h : ℤ} {x a b p t : Bool} → x ≡ s y → late ≡ W y t_max → a ≡ ahead x late u → early ≡ W y t_min → b ≡ ahead x early v →
-    h ≡ side m W y h_max → p ≡ produces h → t ≡ spares k (W y h_min) (W y h_max) → (not t && (a || (b && p))) ≡ may_move s (side m W) W u v k y
-may_at m s W u v k y x i a j b h p t = rw (t, a, b, p, h, i, j, x, side_early m W y, side_late m W y)
-
-pub some_at : (E : View) (X W : Windows) (k : ℤ) {u v : ℤ} {all own : ℕ} {t z x : Bool} → u ≡ e_min E X → v ≡ e_max E X → all ≡ count E.events (may_move E.before X W u v k) →
-    t ≡ may_move E.before X W u v k E.subject → own ≡ cond t 1 0 → z ≡ E.before E.subject → x ≡ spares k (W E.subject h_min) (W E.subject h_max) →
-    (ltb own all || (not z && not x)) ≡ some_move E X W k
-some_at E X W k a b c d f s g = rw (f, d, c, s, g, a, b)
 
 -- ---- no target moves
 

@@ -73,6 +73,10 @@ impl Neg for Height {
     }
 }
 
+impl Time {
+    pub const MINUTE: Time = Time(1);
+}
+
 impl Height {
     pub const ZERO: Height = Height(0);
 

@@ -14,7 +14,7 @@ returns c =
     let a = c.args in
     let at : ℕ → ℤ = λ i. get_or a.table.now i (pos 0) in
     elim [
-      t_min ↦ back32 (at (5 * a.y)) (search) ∙ ap at (sym (add-zero _))
+      | t_min ↦ back32 (at (5 * a.y)) (search) ∙ ap at (sym (add-zero _))
       | t_max ↦ back32 (at (5 * a.y + 1)) (search)
       | h_min ↦ back32 (at (5 * a.y + 2)) (search)
       | h_max ↦ back32 (at (5 * a.y + 3)) (search)
