@@ -2,7 +2,7 @@
 -- Assumes nothing.
 use mathlib.Core.Path.{◌≡◌, sym, ap, ◌∙◌}
 use mathlib.Core.List.{List, [], ◌∷◌, ◌++◌, append_assoc}
-use Prim.Native.Nat.{ℕ, ◌+◌, ◌*◌, ◌-◌, ◌/◌, ◌≤◌, ◌<◌}
+use Prim.Native.Nat.{ℕ, ◌+◌, ◌*◌, ◌-◌, ◌/◌, ◌≤◌}
 use native.Mathlib.Omega.{arith}
 use lib.IntN.{ℤ, pos}
 use lib.ListN.{length, take, drop, length-append}
@@ -14,7 +14,9 @@ use Rattle.model.proofs.Words.{premise_list_length}
 use Rattle.facts.specs.Quotes.{cites_of, says_of}
 use Rattle.facts.specs.declared.Citing.{Citing}
 use Rattle.slips.specs.Words.{Appended}
-use Rattle.slips.proofs.Filling.{appended_both, words_length}
+use Rattle.slips.specs.Writing.{Wrote}
+use Rattle.slips.specs.declared.writer.Writer.{Writer}
+use Rattle.slips.proofs.Filling.{appended_both, wrote_both, words_length}
 
 -- Lists that agree from u on agree from any later place on.
 pub drop_later : (l m : List ℤ) (u v : ℕ) → u ≤ v → drop u l ≡ drop u m → drop v l ≡ drop v m
@@ -30,18 +32,13 @@ few_facts {n} {W} c r = omega (arith, premise_list_length n (cites_of c W) (says
 abbrev pub head_words : Explanation → ℕ → List ℤ
 head_words x m = x.rule ∷ x.subject ∷ x.target ∷ x.kind ∷ x.value ∷ pos m ∷ []
 
-module _ (x : Explanation) {at i j m : ℕ} {d d₁ d₂ : List ℤ} (count : m ≡ length x.premises)
-    (first : Appended at (head_words x m) d d₁ i) (facts : Appended i (premise_words x.premises) d₁ d₂ j) where
-  -- There is room for the last word.
-  pub room_left : at + (7 + 3 * m) ≤ length d → j < length d₂
-  room_left h = omega (arith, words_length x.premises)
-
-  pub slip_appended : {k : ℕ} {d₃ : List ℤ} → Appended j (pos (7 + 3 * m) ∷ []) d₂ d₃ k → Appended at (slip_words x) d d₃ k
-  unfolding slip_words
-  slip_appended l =
-      let first' = rw count at first in
-      let l' = rw count at l in
-      appended_both (appended_both first' facts) l'
+-- The head, the facts, the length.
+pub slip_appended : (x : Explanation) {m : ℕ} {s t u v : Writer} → m ≡ length x.premises → Wrote (head_words x m) s t → Wrote (premise_words x.premises) t u → Wrote (pos (7 + 3 * m) ∷ []) u v → Wrote (slip_words x) s v
+unfolding slip_words
+slip_appended x count first facts l =
+    let first' = rw count at first in
+    let l' = rw count at l in
+    wrote_both (wrote_both first' facts) l'
 
 -- Words written before others that stand already.
 pub appended_before : {at i j : ℕ} {xs ys d d₁ d₂ : List ℤ} → i ≤ length d → Appended i ys d d₁ j → Appended at xs d₁ d₂ i → Appended at (xs ++ ys) d d₂ j

@@ -1,2 +1,4 @@
 pub mod Words
 pub mod Slip
+pub mod Writing
+pub mod Telling

@@ -1,19 +1,17 @@
--- A slip as the code writes it, and as it is read from a list: its header, and where its facts stand.
-use Rattle.std.specs.Prelude.{◌≡◌, List, ℕ, ◌+◌, ◌*◌, ◌≤◌, ◌<◌, T, ℤ, pos, length}
-use Rattle.std.specs.Int.Signed.{le_z}
+-- A slip as the code writes it, and as it is read from a list: its header and its facts.
+use Rattle.std.specs.Prelude.{◌≡◌, true, false, List, [], ◌∷◌, ℕ, ◌+◌, ◌≤◌, ◌<◌, ℤ, pos, nat_abs, Option, Some, None, MatchOption}
 use Rattle.model.specs.Job.{Windows}
 use Rattle.model.specs.Standing.{Ranged}
 use Rattle.model.specs.Rules.{known_rule, rule}
-use Rattle.model.specs.Slips.{Premise, Explanation, slip_length, at, premises_at, premise_count, premise_list, concluded_kind, concluded_value}
+use Rattle.model.specs.Slips.{Premise, Explanation, at, premise_list, concluded_kind, concluded_value}
 use Rattle.model.specs.Questions.{in_range}
-use Rattle.model.specs.Reader.{Reading, slip, cut, whole, stop_of, counted}
+use Rattle.model.specs.Reader.{Reading, slip, cut, stop_of, counted}
 use Rattle.rules.specs.Values.{effect_of}
 use Rattle.rules.specs.declared.Effect.{Effect}
 use Rattle.facts.specs.Quotes.{cites_of, says_of, Known}
 use Rattle.facts.specs.declared.Citing.{Citing}
 use Rattle.slips.specs.declared.Slip.{Slip}
-use Rattle.slips.specs.declared.SlipRead.{SlipRead}
-use Rattle.slips.specs.declared.SlipRead.TheVariants.{Whole, Cut}
+use Rattle.slips.specs.declared.Facts.{Facts}
 use Rattle.slips.specs.declared.Fact.{Fact}
 use Rattle.slips.specs.declared.Trailer.{Trailer}
 
@@ -42,6 +40,43 @@ pub record Writes (n : ℕ) (W : Windows) (c : Citing) (r e y : ℕ) : Type 0 wh
 
 -- ---- read
 
+-- A word that is the number r of a rule, and one that is none.
+pub record Numbers (w : ℤ) (r : ℕ) : Type 0 where
+  pub known : known_rule w ≡ true
+  pub is : pos r ≡ w
+  pub low : 1 ≤ r
+  pub high : r ≤ 18
+  pub apart : 14 < r → 17 ≤ r
+
+abbrev pub Ruled : ℤ → Option ℕ → Type 0
+Ruled w r = MatchOption r (known_rule w ≡ false) (Numbers w)
+
+-- A word that is a number m of facts, and one that is none.
+pub record Counts (w : ℤ) (m : ℕ) : Type 0 where
+  pub within : in_range (pos 0) (pos 256) w ≡ true
+  pub is : m ≡ nat_abs w
+  pub few : m ≤ 256
+
+abbrev pub Counted : ℤ → Option ℕ → Type 0
+Counted w m = MatchOption m (in_range (pos 0) (pos 256) w ≡ false) (Counts w)
+
+-- A fact's words, and those at p; the facts that stand in words, three each.
+abbrev pub premise_of : Fact → Premise
+premise_of f = record { event = f.event.0; kind = f.kind.0; value = f.value.0 }
+
+abbrev pub premise_at : List ℤ → ℕ → Premise
+premise_at list p = record { event = at list p; kind = at list (p + 1); value = at list (p + 2) }
+
+unfoldable pub premises_in : List ℤ → List Premise
+premises_in [] = []
+premises_in (y ∷ []) = []
+premises_in (y ∷ k ∷ []) = []
+premises_in (y ∷ k ∷ v ∷ ws) = record { event = y; kind = k; value = v } ∷ premises_in ws
+
+-- A fact is read, the others are left; or there is none.
+abbrev pub Gives : Facts → Option Fact → Facts → Type 0
+Gives s r t = MatchOption r (premises_in s.words.now ≡ []) (λ f. premises_in s.words.now ≡ premise_of f ∷ premises_in t.words.now)
+
 -- The slip with these facts; with its own.
 abbrev pub headed : Slip → List Premise → Explanation
 headed s fs =
@@ -54,44 +89,24 @@ headed s fs =
       premises = fs;
     }
 
-abbrev pub explanation_of : List ℤ → Slip → Explanation
-explanation_of list s = headed s (premises_at list s.facts s.count)
+abbrev pub explanation_of : Slip → Explanation
+explanation_of s = headed s (premises_in s.facts.words.now)
 
 -- A slip and the place after it, or a refusal.
-abbrev pub reading_of : List ℤ → SlipRead → Reading
-reading_of list (Whole s next) = slip (explanation_of list s) next
-reading_of list Cut = cut
+abbrev pub reading_of : Option (Slip × ℕ) → Reading
+reading_of (Some r) = slip (explanation_of r.0) r.1
+reading_of None = cut
 
--- A slip at p that is whole before the trailer at stop.
-pub record Sized (list : List ℤ) (stop p : ℕ) : Type 0 where
-  pub is_whole : T (whole list stop p)
-  pub room : p + 7 ≤ stop
-  pub rule : T (known_rule (at list p))
-  pub rule_low : T (le_z (pos 0) (at list p))
-  pub count : T (in_range (pos 0) (pos 256) (at list (p + 5)))
-  pub count_low : T (le_z (pos 0) (at list (p + 5)))
-  pub few : premise_count list p ≤ 256
-  pub ends : p + slip_length (premise_count list p) ≤ stop
-
--- A slip that was read, standing in the list with all its facts.
-pub record Stands (list : List ℤ) (s : Slip) : Type 0 where
+-- The rule of a slip that was read.
+pub record Stands (s : Slip) : Type 0 where
   pub rule_low : 1 ≤ s.rule
   pub rule_high : s.rule ≤ 18
   pub rule_apart : 14 < s.rule → 17 ≤ s.rule
-  pub few : s.count ≤ 256
-  pub inside : s.facts + 3 * s.count ≤ length list
 
--- Where a slip read stands, and the place after it, before the trailer.
-abbrev pub Placed : List ℤ → ℕ → SlipRead → Type 0
-Placed list stop (Whole s next) = Stands list s × (next ≤ stop)
-Placed list stop Cut = Unit {0}
-
--- A fact's words, and those at p.
-abbrev pub premise_of : Fact → Premise
-premise_of f = record { event = f.event.0; kind = f.kind.0; value = f.value.0 }
-
-abbrev pub premise_at : List ℤ → ℕ → Premise
-premise_at list p = record { event = at list p; kind = at list (p + 1); value = at list (p + 2) }
+-- Where a slip read ends, before the trailer.
+abbrev pub Placed : ℕ → Option (Slip × ℕ) → Type 0
+Placed stop (Some r) = Stands r.0 × (r.1 ≤ stop)
+Placed stop None = Unit {0}
 
 -- A list's trailer, its last three words.
 pub record Trails (list : List ℤ) (t : Trailer) : Type 0 where

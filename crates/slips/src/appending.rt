@@ -2,116 +2,103 @@
 ghost use Rattle.std.specs.Prelude.{◌≡◌, [], ◌∷◌, ◌+◌, ◌*◌, ◌<◌, ◌≤◌, pos, length};
 ghost use Rattle.model.specs.Rules.{rule};
 ghost use Rattle.model.specs.Slips.{slip_words, trailer, concluded_kind, concluded_value};
-ghost use Rattle.tables.specs.Board.{board};
 ghost use Rattle.rules.specs.Values.{effect_of};
-ghost use Rattle.slips.specs.Words.{Appended};
-ghost use Rattle.slips.specs.Slip.{slip_of, Writes};
+ghost use Rattle.slips.specs.Writing.{HasRoom, Wrote};
+ghost use Rattle.slips.specs.Telling.{written_by, Writable};
 
-use crate::MARK;
-use crate::words::{put_number, put_word};
-use crate::writing::write_premises;
-use facts::Citing;
+use crate::writer::Writer;
+use crate::writing::Quoting;
+use crate::{HEAD_WORDS, Header, MARK, slip_length};
 use rules::Effect;
 use rules::numbers::own_kind;
 use tables::Word;
 
-// The trailer: number of slips, where the last slip begins, mark 4207.
-pub fn append_trailer(buffer: &mut [i32], at: usize, slips: usize, last: usize) -> usize
-    requires { (at + 3 ≤ length buffer.old) × (slips < 2147483648) × (last < 2147483648) }
-    ensures { Appended at (trailer slips last) buffer.old buffer.new result }
-{
-    let second = put_number(buffer, at, slips);
-    let third = put_number(buffer, second, last);
-    put_number(buffer, third, MARK)
-}
-
-// What a slip concludes with: the kind of its bound, or 0 for a conflict.
-pub fn concluded_kind(r: usize, x: Effect) -> usize
-    requires { (1 ≤ r) × (r ≤ 18) }
-    ensures { (result ≡ concluded_kind (rule r) (effect_of x)) × (result ≤ 4) }
-{
-    match x {
-        Effect::Idle => 0,
-        Effect::Narrows(_) => own_kind(r),
-        Effect::Fails => 0,
+impl Header {
+    // What the slip concludes with: the kind of its bound and the bound, or 0 and 0 for a conflict.
+    fn conclusion(self) -> (usize, Word)
+        requires { (1 ≤ self.rule) × (self.rule ≤ 18) }
+        ensures { (result.0 ≡ concluded_kind (rule self.rule) (effect_of self.effect))
+            × (result.1.0 ≡ concluded_value (effect_of self.effect))
+            × (result.0 ≤ 4) }
+    {
+        match self.effect {
+            Effect::Narrows(bound) => (own_kind(self.rule), bound),
+            Effect::Idle | Effect::Fails => (0, Word(0)),
+        }
     }
 }
 
-// The bound, or 0 for a conflict.
-pub fn concluded_value(x: Effect) -> Word
-    ensures { result.0 ≡ concluded_value (effect_of x) }
-{
-    match x {
-        Effect::Idle => Word(0),
-        Effect::Narrows(w) => w,
-        Effect::Fails => Word(0),
+impl<'a> Writer<'a> {
+    // The words of a slip before its facts, which are as many as `facts` says.
+    fn put_head(&mut self, h: Header, facts: usize)
+        requires { HasRoom 6 self.old
+            × (1 ≤ h.rule)
+            × (h.rule ≤ 18)
+            × (h.subject ≤ 256)
+            × (h.target ≤ 64)
+            × (facts ≤ 256) }
+        ensures words { Wrote
+            (pos h.rule ∷ pos h.subject ∷ pos h.target ∷ pos (concluded_kind (rule h.rule) (effect_of h.effect)) ∷ concluded_value (effect_of h.effect) ∷ pos facts ∷ [])
+            self.old self.new }
+        ensures same_buffer { self.new.words.ghost_name ≡ self.old.words.ghost_name }
+    {
+        let (kind, value) = h.conclusion();
+        self.put([
+            h.rule as i32,
+            h.subject as i32,
+            h.target as i32,
+            kind as i32,
+            value.0,
+            facts as i32,
+        ]);
     }
-}
 
-// The six words of a slip before its facts, which are as many as count says.
-fn append_head(
-    buffer: &mut [i32],
-    at: usize,
-    r: usize,
-    e: usize,
-    y: usize,
-    x: Effect,
-    count: usize,
-) -> usize
-    requires { (at + 6 ≤ length buffer.old) × (1 ≤ r) × (r ≤ 18) × (e ≤ 256) × (y ≤ 64) × (count ≤ 256) }
-    ensures { Appended at
-        (pos r ∷ pos e ∷ pos y ∷ pos (concluded_kind (rule r) (effect_of x)) ∷ concluded_value (effect_of x) ∷ pos count ∷ [])
-        buffer.old buffer.new result }
-{
-    let second = put_number(buffer, at, r);
-    let third = put_number(buffer, second, e);
-    let fourth = put_number(buffer, third, y);
-    let fifth = put_number(buffer, fourth, concluded_kind(r, x));
-    let sixth = put_word(buffer, fifth, concluded_value(x));
-    put_number(buffer, sixth, count)
-}
+    // The last word of a slip with so many facts: how many words it has.
+    fn put_length(&mut self, facts: usize)
+        requires { HasRoom 1 self.old × (facts ≤ 256) }
+        ensures words { Wrote (pos (7 + 3 * facts) ∷ []) self.old self.new }
+        ensures same_buffer { self.new.words.ghost_name ≡ self.old.words.ghost_name }
+    {
+        self.put([slip_length(facts) as i32]);
+    }
 
-// The slip of rule r with subject e, target y and effect x, whose facts, as many as count says, are cited, appended.
-pub fn append_slip(
-    buffer: &mut [i32],
-    at: usize,
-    b: &[i32; 256],
-    n: usize,
-    cited: Citing,
-    r: usize,
-    e: usize,
-    y: usize,
-    x: Effect,
-    count: usize,
-) -> usize
-    requires { Writes n (board b.now) cited r e y
-        × (count ≡ length (slip_of n (board b.now) cited r e y x).premises)
-        × (at + (7 + 3 * count) ≤ length buffer.old) }
-    ensures { Appended at (slip_words (slip_of n (board b.now) cited r e y x)) buffer.old buffer.new result }
-{
-    let facts = append_head(buffer, at, r, e, y, x, count);
-    let last = write_premises(buffer, facts, b, n, cited);
-    put_number(buffer, last, 7 + 3 * count)
-}
+    // A slip appended, whose facts are as many as `facts` says.
+    pub fn append_slip(&mut self, h: Header, q: &Quoting, facts: usize)
+        requires { Writable h q.now
+            × (facts ≡ length (written_by h q.now).premises)
+            × HasRoom (7 + 3 * facts) self.old }
+        ensures words { Wrote (slip_words (written_by h q.now)) self.old self.new }
+        ensures same_buffer { self.new.words.ghost_name ≡ self.old.words.ghost_name }
+    {
+        self.put_head(h, facts);
+        self.put_facts(q);
+        self.put_length(facts);
+    }
 
-// The same where there is room for as many facts as there can be: the facts are written first, and so counted.
-pub fn put_slip(
-    buffer: &mut [i32],
-    at: usize,
-    b: &[i32; 256],
-    n: usize,
-    cited: Citing,
-    r: usize,
-    e: usize,
-    y: usize,
-    x: Effect,
-) -> usize
-    requires { Writes n (board b.now) cited r e y × (at + 775 ≤ length buffer.old) }
-    ensures { Appended at (slip_words (slip_of n (board b.now) cited r e y x)) buffer.old buffer.new result }
-{
-    let facts = at + 6;
-    let last = write_premises(buffer, facts, b, n, cited);
-    let count = (last - facts) / 3;
-    append_head(buffer, at, r, e, y, x, count);
-    put_number(buffer, last, 7 + 3 * count)
+    // The same where there is room for as many facts as there can be: the facts are written first, and so counted.
+    pub fn put_slip(&mut self, h: Header, q: &Quoting)
+        requires { Writable h q.now × HasRoom 775 self.old }
+        ensures words { Wrote (slip_words (written_by h q.now)) self.old self.new }
+        ensures same_buffer { self.new.words.ghost_name ≡ self.old.words.ghost_name }
+    {
+        let head = self.at;
+        let first = head + HEAD_WORDS;
+        self.at = first;
+        self.put_facts(q);
+        let last = self.at;
+        let facts = (last - first) / 3;
+        self.at = head;
+        self.put_head(h, facts);
+        self.at = last;
+        self.put_length(facts);
+    }
+
+    // The trailer appended: number of slips, where the last slip begins, mark 4207.
+    pub fn append_trailer(&mut self, slips: usize, last: usize)
+        requires { HasRoom 3 self.old × (slips < 2147483648) × (last < 2147483648) }
+        ensures words { Wrote (trailer slips last) self.old self.new }
+        ensures same_buffer { self.new.words.ghost_name ≡ self.old.words.ghost_name }
+    {
+        self.put([slips as i32, last as i32, MARK as i32]);
+    }
 }

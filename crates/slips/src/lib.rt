@@ -1,11 +1,16 @@
 // A slip's words and a list's, written into the slip buffer and read from any list, side by side.
 #![tactic(auto)]
 
-pub mod words; // words.rt: one word, read and put
+pub mod words; // words.rt: one word, read and compared
+pub mod writer; // writer.rt: words appended to a lent buffer
 pub mod writing; // writing.rt: the facts of a slip counted and written
 pub mod appending; // appending.rt: a slip and the trailer appended to a list
-pub mod reading; // reading.rt: a slip, a fact and the trailer read from a list
+pub mod reading; // reading.rt: a slip, its facts and the trailer read from a list
 
+ghost use Rattle.std.specs.Prelude.{◌≡◌, ◌≤◌};
+ghost use Rattle.model.specs.Slips.{slip_length};
+
+use rules::Effect;
 use tables::Word;
 
 // The trailer's last word.
@@ -14,26 +19,46 @@ pub const MARK: usize = 4207;
 // A slip that is read has 0 to 256 facts.
 pub const MOST_FACTS: i32 = 256;
 
+// The words of a slip before its facts, and of the trailer.
+pub const HEAD_WORDS: usize = 6;
+
+pub const TRAILER_WORDS: usize = 3;
+
 // The words of a slip with 256 facts, which no slip passes, and of the trailer.
 pub const LONGEST_WITH_TRAILER: usize = 778;
 
-// A slip: its header, the word place of its first fact, and the number of its facts.
+// The words of a slip with so many facts.
+pub fn slip_length(facts: usize) -> usize
+    requires { facts ≤ 256 }
+    ensures { result ≡ slip_length facts }
+{
+    7 + 3 * facts
+}
+
+// What a slip that is written says beside its facts: the rule tried, its subject and target, and the effect.
 #[derive(Clone, Copy)]
-pub struct Slip {
+pub struct Header {
+    pub rule: usize,
+    pub subject: usize,
+    pub target: usize,
+    pub effect: Effect,
+}
+
+// A slip that was read: its header and its facts.
+#[derive(Clone, Copy)]
+pub struct Slip<'a> {
     pub rule: usize,
     pub subject: Word,
     pub target: Word,
     pub kind: Word,
     pub value: Word,
-    pub facts: usize,
-    pub count: usize,
+    pub facts: Facts<'a>,
 }
 
-// A slip read comes apart as a slip and the place after it, or as a refusal.
+// Facts that are still to be read, three words each.
 #[derive(Clone, Copy)]
-pub enum SlipRead {
-    Whole(Slip, usize),
-    Cut,
+pub struct Facts<'a> {
+    pub words: &'a [i32],
 }
 
 // A fact, as its three words.

@@ -1,11 +1,14 @@
 -- A set's members added up as the loop of `totals::total` adds them, and the set's numbers in range.
 -- Assumes nothing.
-use mathlib.Core.Path.{◌≡◌, refl, sym, subst}
+use mathlib.Core.Path.{◌≡◌, refl, sym, ap, subst, ◌∙◌}
 use mathlib.Core.Bool.{Bool, true, false}
-use mathlib.Core.List.{List}
-use Prim.Native.Nat.{ℕ, ◌+◌, ◌<◌, ◌≤◌}
+use mathlib.Core.List.{List, [], ◌∷◌, ◌++◌}
+use Prim.Native.Nat.{ℕ, zero, suc, ◌+◌, ◌<◌, ◌≤◌}
 use native.Mathlib.Omega.{arith}
-use borrow.Author.Tests.{ne_eqb}
+use mathlib.Core.Bool.{or-false}
+use Rattle.std.proofs.Common.{add-zero, zero-add}
+use Rattle.std.specs.List.{list_any, range_with_len}
+use Rattle.std.proofs.lemmas.List.Folds.{list_any-append}
 use native.Mathlib.Numerals.{add-one, unary_clauses}
 use lib.ListN.{get_or}
 use lib.Dec.{T, eqb, eqb_refl}
@@ -14,7 +17,6 @@ use Rattle.integers.specs.Range.{Within}
 use Rattle.integers.specs.Sum.{sum}
 use Rattle.integers.proofs.Linear.{ints, neg_law}
 use Rattle.integers.proofs.Sums.{sum_within}
-use Rattle.integers.proofs.Tests.{is_true}
 use Rattle.model.specs.Job.{any, h_min, h_max, Windows, events, in_set, set_size, member, set_begin, member_word, Job as Call}
 use Rattle.model.specs.Standing.{Ranged, SaneSet}
 use Rattle.model.specs.View.{side}
@@ -82,17 +84,15 @@ adds {ws} {at} {j} {g} {W} s r = subst (λ at. Adds ws at W) (sym s.begins) (add
 
 -- ---- a member looked for
 
-pub any_none : (p : ℕ → Bool) → any 0 p ≡ false
+-- A walk over the first n numbers.
+range_more : (a n : ℕ) → range_with_len a (suc n) ≡ range_with_len a n ++ (a + n) ∷ []
+range_more a zero = rw add-zero
+range_more a (suc n) = let e : a + suc n ≡ a + 1 + n = omega arith in rw e (ap (λ xs. a ∷ xs) (range_more (a + 1) n))
+
+pub any_listed : (p : ℕ → Bool) (n : ℕ) → list_any p (range_with_len 0 n) ≡ any n p
 unfolding any
-any_none p = refl
-
-module _ {y e : ℕ} where
-  pub any_not : (i : ℕ) (m : ℕ → ℕ) → any i (λ k. eqb (m k) y) ≡ false → e ≡ m i → (e ≡ y → ⊥) → any (i + 1) (λ k. eqb (m k) y) ≡ false
-  unfolding any
-  any_not i m a p d = rw (add-one i, a, ← p, ne_eqb e y d)
-
-  pub any_found : (n i : ℕ) (m : ℕ → ℕ) → i < n → e ≡ m i → e ≡ y → true ≡ any n (λ k. eqb (m k) y)
-  any_found n i m l p q = sym (is_true (any n (λ k. eqb (m k) y)) (any_in n i (λ k. eqb (m k) y) l (rw (← p, q) (eqb_refl y))))
+any_listed p zero = refl
+any_listed p (suc n) = ap (list_any p) (range_more 0 n) ∙ list_any-append p (range_with_len 0 n) ((0 + n) ∷ []) ∙ rw (any_listed p n, zero-add n, or-false (p n))
 
 -- What is listed is a member.
 pub listed : (j : Call) (g i : ℕ) → i < set_size j g → T (in_set j g (member j g i))

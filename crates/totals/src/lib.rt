@@ -11,12 +11,11 @@ ghost use Rattle.rules.specs.Values.{finding_of, effect_of};
 ghost use Rattle.sets.specs.Sets.{word_at, member_at, count_at};
 ghost use Rattle.totals.specs.Totals.{event_at, limit_at, total_at, Listed, Adds, SetOf, bound_by, does_by, Slack};
 
-use levels::levels::{minus, plus};
-use levels::places::{negated, side_h_max, side_height};
+use levels::levels::added;
+use levels::places::{side_h_max, side_height};
 use rules::effects::bound_effect;
-use rules::{Effect, Finding};
-use tables::Height;
-use tables::ends::height_word;
+use rules::{Effect, Finding, Rule};
+use tables::{Board, Height};
 
 // ---- a set of the table
 
@@ -33,14 +32,7 @@ pub fn is_member(sets: &[i32], at: usize, count: usize, y: usize) -> bool
     requires { Listed sets.now at × (count ≡ count_at sets.now at) }
     ensures { result ≡ any (count_at sets.now at) (λ i. eqb (event_at sets.now at i) y) }
 {
-    let mut k: usize = 0;
-    while k < count {
-        if member(sets, at, k) == y {
-            return true;
-        }
-        k += 1;
-    }
-    false
+    (0..count).any(|k| member(sets, at, k) == y)
 }
 
 // The limit that the sum of its members must reach on a side: the least total, in the mirror the most negated.
@@ -49,83 +41,72 @@ fn limit(sets: &[i32], at: usize, mirror: bool) -> Height
     ensures { result.0 ≡ limit_at mirror sets.now at }
 {
     if mirror {
-        negated(Height(sets[at + 1]))
+        -Height(sets[at + 1])
     } else {
         Height(sets[at])
     }
 }
 
 // Its members' h_max on a side, added up.
-fn total(b: &[i32; 256], sets: &[i32], at: usize, count: usize, mirror: bool) -> Height
-    requires { Adds sets.now at (board b.now) × (count ≡ count_at sets.now at) }
-    ensures { result.0 ≡ total_at mirror sets.now at (board b.now) × Within result.0 639936 }
+fn total(b: &Board, sets: &[i32], at: usize, count: usize, mirror: bool) -> Height
+    requires { Adds sets.now at (board b.now.words) × (count ≡ count_at sets.now at) }
+    ensures { result.0 ≡ total_at mirror sets.now at (board b.now.words) × Within result.0 639936 }
 {
-    let mut sum = Height(0);
-    let mut i: usize = 0;
-    while i < count {
-        sum = plus(sum, side_h_max(b, mirror, member(sets, at, i)));
-        i += 1;
-    }
-    sum
+    added(count, Height::ZERO, |i| {
+        side_h_max(b, mirror, member(sets, at, i))
+    })
 }
 
 // What is left over the limit.
-pub fn slack(b: &[i32; 256], sets: &[i32], at: usize, count: usize, mirror: bool) -> Height
-    requires { Adds sets.now at (board b.now) × (count ≡ count_at sets.now at) }
-    ensures { ((j : Call) (g : ℕ) → SetOf sets.now at j g → Slack j g mirror (board b.now) result.0)
+pub fn slack(b: &Board, sets: &[i32], at: usize, count: usize, mirror: bool) -> Height
+    requires { Adds sets.now at (board b.now.words) × (count ≡ count_at sets.now at) }
+    ensures { ((j : Call) (g : ℕ) → SetOf sets.now at j g → Slack j g mirror (board b.now.words) result.0)
         × Within result.0 1279872 }
 {
-    minus(total(b, sets, at, count, mirror), limit(sets, at, mirror))
+    total(b, sets, at, count, mirror) - limit(sets, at, mirror)
 }
 
 // ---- a member of a set with this slack
 
 // The bound of rule 17, in the mirror 18, on y's amount.
-fn total_bound(b: &[i32; 256], mirror: bool, y: usize, slack: Height) -> Height
-    requires { (y < 64) × Within (board b.now y h_min) 9999 × Within (board b.now y h_max) 9999 × Within slack.0 1279872 }
-    ensures { result.0 ≡ bound_by mirror (board b.now) y slack.0 }
+fn total_bound(b: &Board, mirror: bool, y: usize, slack: Height) -> Height
+    requires { (y < 64) × Within (board b.now.words y h_min) 9999 × Within (board b.now.words y h_max) 9999 × Within slack.0 1279872 }
+    ensures { result.0 ≡ bound_by mirror (board b.now.words) y slack.0 }
 {
-    side_height(mirror, minus(side_h_max(b, mirror, y), slack))
-}
-
-// The kind of their bounds: 3 h ≥, in the mirror 4 h ≤.
-fn total_kind(mirror: bool) -> usize
-    ensures { (end result ≡ own_end (total mirror)) × (1 ≤ result) × (result ≤ 4) }
-{
-    if mirror { 4 } else { 3 }
+    side_height(mirror, side_h_max(b, mirror, y) - slack)
 }
 
 // What rule 17, in the mirror 18, does to y's window.
-pub fn total_effect(b: &[i32; 256], mirror: bool, y: usize, slack: Height) -> Effect
-    requires { (y < 64) × Within (board b.now y h_min) 9999 × Within (board b.now y h_max) 9999 × Within slack.0 1279872 }
-    ensures { effect_of result ≡ does_by mirror (board b.now) y slack.0 }
+pub fn total_effect(b: &Board, mirror: bool, y: usize, slack: Height) -> Effect
+    requires { (y < 64) × Within (board b.now.words y h_min) 9999 × Within (board b.now.words y h_max) 9999 × Within slack.0 1279872 }
+    ensures { effect_of result ≡ does_by mirror (board b.now.words) y slack.0 }
 {
     let h = total_bound(b, mirror, y, slack);
-    bound_effect(b, total_kind(mirror), y, height_word(h))
+    bound_effect(b, Rule::Total { mirror }.own_end(), y, h.into())
 }
 
 // ---- at once
 
 // What rule 17, in the mirror 18, gives for the member y of the set that begins at `at`.
 pub fn total_finding(
-    b: &[i32; 256],
+    b: &Board,
     sets: &[i32],
     at: usize,
     count: usize,
     mirror: bool,
     y: usize,
 ) -> Finding
-    requires { Adds sets.now at (board b.now)
+    requires { Adds sets.now at (board b.now.words)
         × (count ≡ count_at sets.now at)
         × (y < 64)
-        × Within (board b.now y h_min) 9999
-        × Within (board b.now y h_max) 9999 }
+        × Within (board b.now.words y h_min) 9999
+        × Within (board b.now.words y h_max) 9999 }
     ensures { (j : Call) (g : ℕ) →
         SetOf sets.now at j g →
         y < events j →
         T (in_set j g y) →
-        finding_of result ≡ finding (total mirror) j (board b.now) g y }
+        finding_of result ≡ finding (total mirror) j (board b.now.words) g y }
 {
     let s = slack(b, sets, at, count, mirror);
-    Finding::Of(total_bound(b, mirror, y, s))
+    Finding::Bound(total_bound(b, mirror, y, s).into())
 }

@@ -1,22 +1,16 @@
-use native.Mathlib.Omega.{arith}
-use lib.Dec.{eqb}
-use Rattle.sets.specs.Sets.{count_at}
+-- `totals::is_member` looks for y among the members. Assumes nothing.
+use Rattle.std.proofs.Common.{ℕ, Bool, refl, ap, ◌∙◌, eqb, rules, tests, arith}
+use Rattle.std.proofs.lemmas.Iterator.{YieldsList-from_range}
+use Rattle.std.proofs.lemmas.Iterator.Search.{any_from_yields_List}
+use Rattle.model.specs.Job.{any}
 use Rattle.totals.specs.Totals.{event_at}
-use Rattle.totals.proofs.Summing.{any_none, any_found, any_not}
+use Rattle.totals.proofs.Summing.{any_listed}
 use Rattle.totals.proofs.is_member.Goals as goal
 
-pub loop-k-init : goal.loop-k-init
-loop-k-init c = let a = c.args in (omega arith, any_none (λ k. eqb (event_at a.sets.now a.at k) a.y))
-
-pub returns-then-member-y : goal.returns-then-member-y
-returns-then-member-y c =
+pub returns : goal.returns
+returns c =
     let a = c.args in
-    let l = c.loop-k in
-    let n = count_at a.sets.now a.at in
-    any_found n l.k (event_at a.sets.now a.at) (omega (arith, c.requires.1, c.loop-k-test.true)) c.member.ensures c.if-member-y.true
-
-pub loop-k-preserved : goal.loop-k-preserved
-loop-k-preserved c =
-    let a = c.args in
-    let l = c.loop-k in
-    (omega arith, any_not l.k (event_at a.sets.now a.at) l.invariant.1 c.member.ensures c.if-member-y.false)
+    let is_y : ℕ → Bool = λ k. eqb (event_at a.sets.now a.at k) a.y in
+    any_from_yields_List is_y _ _ c.any.result c.any.ensures.ran (YieldsList-from_range 0 a.count a.count refl (omega arith)) (λ x b q k. search (rules, tests))
+    ∙ any_listed is_y a.count
+    ∙ ap (λ n. any n is_y) c.requires.1

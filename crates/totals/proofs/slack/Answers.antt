@@ -9,10 +9,10 @@ use Rattle.totals.proofs.slack.Goals as goal
 pub returns : goal.returns
 returns c =
     let a = c.args in
-    let W = board a.b.now in
+    let W = board a.b.now.words in
     let t = c.total.ensures in
     let l = c.limit.ensures in
-    let d = c.minus.ensures in (
+    let d = c.sub.ensures in (
       λ j g o. slackens a.mirror j g W (slack_is a.mirror a.sets.now a.at W t.0 l d) o,
       apart d t.1 (wider {l = 639936} l (limit_within a.mirror c.requires.0) (omega arith)) (omega arith),
     )

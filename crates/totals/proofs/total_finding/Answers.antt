@@ -4,4 +4,4 @@ use Rattle.model.specs.Rules.{bound}
 use Rattle.totals.proofs.total_finding.Goals as goal
 
 pub returns : goal.returns
-returns c = λ j g o l t. ap bound c.total_bound.ensures ∙ sym ((c.slack-s.ensures.0 j g o).gives _ l t)
+returns c = λ j g o l t. ap bound (c.into.ensures ∙ c.total_bound.ensures) ∙ sym ((c.slack-s.ensures.0 j g o).gives _ l t)

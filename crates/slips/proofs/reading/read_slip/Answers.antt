@@ -1,13 +1,50 @@
--- `slips::reading::read_slip` meets its contract.
--- Assumes nothing.
-use Rattle.slips.proofs.Sizing.{sized, cut_is}
-use Rattle.integers.proofs.Tests.{true_is}
-use mathlib.Core.Path.{sym, ◌∙◌}
+-- `slips::reading::read_slip` asks question 13, test by test. Assumes nothing.
+use mathlib.Core.Path.{refl, sym}
 use native.Mathlib.Omega.{arith}
+use Rattle.slips.proofs.Sizing.{not_room, not_rule, not_count, not_all, not_length, slip_is}
 use Rattle.slips.proofs.reading.read_slip.Goals as goal
 
-pub slip_at-requires : goal.slip_at-requires
-slip_at-requires c = let a = c.args in (omega arith, sized a.list.now a.stop a.p (true_is (sym c.is_whole.ensures ∙ c.if-is_whole.true)))
+pub returns-then-stop-p-le-HEAD_WORDS : goal.returns-then-stop-p-le-HEAD_WORDS
+returns-then-stop-p-le-HEAD_WORDS c = let a = c.args in (not_room a.list.now a.stop a.p c.if-stop-p-le-HEAD_WORDS.true, tt)
+
+pub returns-in_err-rule : goal.returns-in_err-rule
+returns-in_err-rule c =
+    let a = c.args in
+    let e = rw c.word_at.ensures at c.in_err-rule.ensures in
+    rw c.from_residual.ensures (not_rule a.list.now a.stop a.p c.if-stop-p-le-HEAD_WORDS.false e, tt)
+
+pub returns-in_err-count : goal.returns-in_err-count
+returns-in_err-count c =
+    let a = c.args in
+    let r = rw c.word_at.ensures at c.in_ok-rule.ensures in
+    let e = rw c.word_at-2.ensures at c.in_err-count.ensures in
+    rw c.from_residual-in_err-count.ensures (not_count a.list.now a.stop a.p c.if-stop-p-le-HEAD_WORDS.false r.known e, tt)
+
+pub returns-then-stop-p : goal.returns-then-stop-p
+returns-then-stop-p c =
+    let a = c.args in
+    let r = rw c.word_at.ensures at c.in_ok-rule.ensures in
+    let m = rw c.word_at-2.ensures at c.in_ok-count.ensures in
+    let size = rw m.is at c.slip_length-size.ensures in
+    (not_all a.list.now a.stop a.p c.if-stop-p-le-HEAD_WORDS.false r.known m.within size c.if-stop-p.true, tt)
+
+pub returns-then-not-word_is : goal.returns-then-not-word_is
+returns-then-not-word_is c =
+    let a = c.args in
+    let r = rw c.word_at.ensures at c.in_ok-rule.ensures in
+    let m = rw c.word_at-2.ensures at c.in_ok-count.ensures in
+    let size = rw m.is at c.slip_length-size.ensures in
+    let e = rw c.word_at-3.ensures at c.if-not-word_is.ensures in
+    (not_length a.list.now a.stop a.p c.if-stop-p-le-HEAD_WORDS.false r.known m.within size refl c.if-stop-p.false (sym e), tt)
 
 pub returns : goal.returns
-returns c = let a = c.args in (cut_is a.list.now a.stop a.p c.is_whole.ensures c.if-is_whole.false, tt)
+returns c =
+    let a = c.args in
+    let r = rw c.word_at.ensures at c.in_ok-rule.ensures in
+    let m = rw c.word_at-2.ensures at c.in_ok-count.ensures in
+    let size = rw m.is at c.slip_length-size.ensures in
+    let e = rw c.word_at-3.ensures at c.if-not-word_is.ensures in (
+      slip_is a.list.now a.stop a.p c.if-stop-p-le-HEAD_WORDS.false r.known m.within size refl c.if-stop-p.false c.requires.1 (sym e)
+          r.is c.word_at-4.ensures c.word_at-5.ensures c.word_at-6.ensures c.word_at-7.ensures refl,
+      (record { rule_low = r.low; rule_high = r.high; rule_apart = r.apart }, omega arith),
+    )

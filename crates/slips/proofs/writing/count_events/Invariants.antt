@@ -1,14 +1,10 @@
 -- `slips::writing::count_events` counts the facts event by event. The loop's invariant: the count is that of the first z events. Assumes nothing.
 use mathlib.Core.Path.{◌≡◌}
-use Prim.Native.Nat.{◌≤◌, ◌-◌, ◌*◌}
+use Prim.Native.Nat.{◌≤◌, ◌*◌}
 use lib.ListN.{length}
 use Rattle.tables.specs.Board.{board}
 use Rattle.model.specs.Slips.{premise_list}
-use Rattle.facts.specs.Quotes.{level_cited, level_said}
 use Rattle.slips.proofs.writing.count_events.Given as goal
 
 abbrev pub invariant-loop-z : goal.invariant-loop-z
-invariant-loop-z l = (l.z ≤ l.n) × (l.count ≡ length (premise_list l.z (level_cited l.c (board l.b)) (level_said l.c (board l.b)))) × (l.count ≤ 3 * l.z)
-
-abbrev pub decreases-loop-z : goal.decreases-loop-z
-decreases-loop-z l = l.n - l.z
+invariant-loop-z g l = (l.count ≡ length (premise_list l.z (g.C.ByEvent.cites l.c (board l.b)) (g.C.ByEvent.says l.c (board l.b)))) × (l.count ≤ 3 * l.z)
