@@ -18,12 +18,13 @@ use Rattle.std.specs.Bool.{then_some}
 use Rattle.std.specs.Prelude.{Option, Some, None}
 use Rattle.integers.proofs.Tests.{decide}
 use Rattle.model.specs.Job.{End, t_min, t_max, h_min, h_max, Windows, Job as Call, events, in_set}
-use Rattle.model.specs.Rules.{Effect, total, rule}
+use Rattle.model.specs.Rules.{Rule, Effect, total}
 use Rattle.model.specs.Facts.{quotes, quoted}
-use Rattle.model.specs.Slips.{Premise, number, end, premise_words, quote, premise_list}
+use Rattle.model.specs.Slips.{Premise, number, premise_words, quote, premise_list}
+use Rattle.tables.specs.Ends.{end_of}
 use Rattle.tables.specs.Job.{Serves}
 use Rattle.tables.specs.declared.Job.{Job}
-use Rattle.tables.specs.declared.Word.{Word}
+use Rattle.tables.specs.declared.ends.Word.{Word}
 use Rattle.rules.specs.Values.{effect_of}
 use Rattle.rules.specs.declared.Effect.{Effect as Done}
 use Rattle.facts.specs.Quotes.{lag_cited, lag_said, cites_of, says_of, Cites, Shows, TotalCites}
@@ -72,11 +73,11 @@ pub wrote_nothing : (w : Writer) → Wrote (premise_words []) w w
 unfolding premise_words
 wrote_nothing w = wrote_none w
 
-pub wrote_one : {hit : Option Word} (y kind : ℕ) {v : Word} {a b d : ℤ} {u w : Writer} → hit ≡ Some v → a ≡ pos y → b ≡ pos kind → d ≡ v.0 → Wrote (a ∷ b ∷ d ∷ []) u w → Wrote (premise_words (told y kind hit)) u w
+pub wrote_one : {hit : Option Word} (y : ℕ) (kind : End) {v : Word} {a b d : ℤ} {u w : Writer} → hit ≡ Some v → a ≡ pos y → b ≡ pos (number kind) → d ≡ v.0 → Wrote (a ∷ b ∷ d ∷ []) u w → Wrote (premise_words (told y kind hit)) u w
 unfolding premise_words
 wrote_one y kind e f g h p = rw e (rw (f, g, h) at p)
 
-pub wrote_absent : {hit : Option Word} (y kind : ℕ) (w : Writer) → hit ≡ None → Wrote (premise_words (told y kind hit)) w w
+pub wrote_absent : {hit : Option Word} (y : ℕ) (kind : End) (w : Writer) → hit ≡ None → Wrote (premise_words (told y kind hit)) w w
 wrote_absent y kind w e = rw e (wrote_nothing w)
 
 -- ---- one event
@@ -87,24 +88,24 @@ room_left xs ys h w = omega (arith, length-append xs ys, words_length xs, w.appe
 pub room_first : (xs ys : List Premise) (s : Writer) → HasRoom (3 * length (xs ++ ys)) s → HasRoom (3 * length xs) s
 room_first xs ys s h = omega (arith, length-append xs ys)
 
-pub told_quote : (t : Bool) (z : ℕ) (k : End) {w : Word} {o : Option Word} {v : ℤ} → o ≡ then_some t w → w.0 ≡ v → told z (number k) o ≡ quote t z k v
+pub told_quote : (t : Bool) (z : ℕ) (k : End) {w : Word} {o : Option Word} {v : ℤ} → o ≡ then_some t w → w.0 ≡ v → told z k o ≡ quote t z k v
 told_quote true z k e f = rw (e, f)
 told_quote false z k e f = rw e
 
-told_height : (m t : Bool) (z : ℕ) (w : Word) (a b : ℤ) → w.0 ≡ cond m a b → told z (cond m 3 4) (then_some t w) ≡ quote (m && t) z h_min a ++ quote (not m && t) z h_max b
+told_height : (m t : Bool) (z : ℕ) (w : Word) (a b : ℤ) → w.0 ≡ cond m a b → told z (cond m h_min h_max) (then_some t w) ≡ quote (m && t) z h_min a ++ quote (not m && t) z h_max b
 told_height true true z w a b e = rw e
 told_height true false z w a b e = refl
 told_height false true z w a b e = rw e
 told_height false false z w a b e = refl
 
-height_word : (m : Bool) (W : Windows) (z : ℕ) → W z (end (cond m 3 4)) ≡ cond m (W z h_min) (W z h_max)
+height_word : (m : Bool) (W : Windows) (z : ℕ) → W z (cond m h_min h_max) ≡ cond m (W z h_min) (W z h_max)
 height_word true W z = refl
 height_word false W z = refl
 
 -- An event's facts, quoted by three tests.
-pub told_event : (m l u t : Bool) (z : ℕ) (W : Windows) {a b w : Word} {f : EventFacts} {x y : ℤ} → f.kind ≡ cond m 3 4 → f.lower ≡ then_some l a → a.0 ≡ x → f.upper ≡ then_some u b → b.0 ≡ y → f.height ≡ then_some t w → w.0 ≡ W z (end f.kind) →
+pub told_event : (m l u t : Bool) (z : ℕ) (W : Windows) (f : EventFacts) {a b w : Word} {x y : ℤ} → end_of f.end ≡ cond m h_min h_max → f.lower ≡ then_some l a → a.0 ≡ x → f.upper ≡ then_some u b → b.0 ≡ y → f.height ≡ then_some t w → w.0 ≡ W z (end_of f.end) →
     told_by z f ≡ quote l z t_min x ++ (quote u z t_max y ++ (quote (m && t) z h_min (W z h_min) ++ quote (not m && t) z h_max (W z h_max)))
-told_event m l u t z W {w = w} k p a q b r h =
+told_event m l u t z W f {w = w} k p a q b r h =
     let g : w.0 ≡ cond m (W z h_min) (W z h_max) = h ∙ rw k (height_word m W z) in
     rw (told_quote l z t_min p a, told_quote u z t_max q b, r, k, told_height m t z w (W z h_min) (W z h_max) g)
 
@@ -234,11 +235,11 @@ list_same (suc z) c c' v v' p q =
     at k = quote_same (c z k) (c' z k) z k (v z k) (v' z k) (p z (omega arith) k) (q z (omega arith) k)
 
 -- What is cited is what the slip of its rule quotes.
-pub same_premises : {k : Job} {ws : List ℤ} {W : Windows} {r e y : ℕ} {x : Done} {c : Citing} (j : Call) → Serves k ws W j → Cites k ws W r e y x c →
-    premise_list k.events (cites_of c W) (says_of c W) ≡ premise_list (events j) (quotes (rule r) j W e y (effect_of x)) (quoted (rule r) j W e y (effect_of x))
+pub same_premises : {k : Job} {ws : List ℤ} {W : Windows} {r : Rule} {e y : ℕ} {x : Done} {c : Citing} (j : Call) → Serves k ws W j → Cites k ws W r e y x c →
+    premise_list k.events (cites_of c W) (says_of c W) ≡ premise_list (events j) (quotes r j W e y (effect_of x)) (quoted r j W e y (effect_of x))
 same_premises {k} {ws} {W} {r} {e} {y} {x} {c} j h s =
     rw h.holds.events_are
-    (list_same k.events (cites_of c W) (quotes (rule r) j W e y (effect_of x)) (says_of c W) (quoted (rule r) j W e y (effect_of x)) (s.cites j h) (s.says j h))
+    (list_same k.events (cites_of c W) (quotes r j W e y (effect_of x)) (says_of c W) (quoted r j W e y (effect_of x)) (s.cites j h) (s.says j h))
 
 -- The same of a set's slip, on windows that show its members only.
 pub set_premises : {m : Bool} {y : ℕ} {x : Effect} {c : Citing} (j : Call) (g : ℕ) (W X : Windows) → TotalCites m y x c → Shows (events j) (in_set j g) W X → in_set j g y ≡ true →

@@ -79,9 +79,9 @@ module _ (list : List ℤ) (stop p : ℕ) where
           not_length e = rw (le-leb (p + 7) stop (omega arith), rule, count, le-leb (p + slip_length (premise_count list p)) stop (omega arith), rw (last_is, is) at e)
 
           -- the slip read
-          pub slip_is : {r : ℕ} {e y k v : ℤ} {ws : List ℤ} → stop ≤ length list → eq_z (at list last) (pos size) ≡ true →
-              pos r ≡ at list p → e ≡ at list (p + 1) → y ≡ at list (p + 2) → k ≡ at list (p + 3) → v ≡ at list (p + 4) → ws ≡ take (last - (p + 6)) (drop (p + 6) list) →
-              slip (record { rule = pos r; subject = e; target = y; kind = k; value = v; premises = premises_in ws }) (p + size) ≡ reading list stop p
+          pub slip_is : {r e y k v : ℤ} {ws : List ℤ} → stop ≤ length list → eq_z (at list last) (pos size) ≡ true →
+              r ≡ at list p → e ≡ at list (p + 1) → y ≡ at list (p + 2) → k ≡ at list (p + 3) → v ≡ at list (p + 4) → ws ≡ take (last - (p + 6)) (drop (p + 6) list) →
+              slip (record { rule = r; subject = e; target = y; kind = k; value = v; premises = premises_in ws }) (p + size) ≡ reading list stop p
           unfolding reading whole slip_at
           slip_is l t a b c d f w =
               let m = premise_count list p in

@@ -2,12 +2,14 @@
 use Rattle.std.specs.Prelude.{◌≡◌, true, false, List, [], ◌∷◌, ℕ, ◌+◌, ◌≤◌, ◌<◌, ℤ, pos, nat_abs, Option, Some, None, MatchOption}
 use Rattle.model.specs.Job.{Windows}
 use Rattle.model.specs.Standing.{Ranged}
-use Rattle.model.specs.Rules.{known_rule, rule}
+use Rattle.model.specs.Rules.{known_rule, Rule}
 use Rattle.model.specs.Slips.{Premise, Explanation, at, premise_list, concluded_kind, concluded_value}
 use Rattle.model.specs.Questions.{in_range}
 use Rattle.model.specs.Reader.{Reading, slip, cut, stop_of, counted}
-use Rattle.rules.specs.Values.{effect_of}
+use Rattle.rules.specs.Values.{rule_of, effect_of}
+use Rattle.rules.specs.Numbers.{number_of}
 use Rattle.rules.specs.declared.Effect.{Effect}
+use Rattle.rules.specs.declared.Rule.{Rule as Named}
 use Rattle.facts.specs.Quotes.{cites_of, says_of, Known}
 use Rattle.facts.specs.declared.Citing.{Citing}
 use Rattle.slips.specs.declared.Slip.{Slip}
@@ -18,38 +20,30 @@ use Rattle.slips.specs.declared.Trailer.{Trailer}
 -- ---- written
 
 -- The slip of rule r with subject e, target y and effect x, whose facts are those cited.
-abbrev pub slip_of : ℕ → Windows → Citing → ℕ → ℕ → ℕ → Effect → Explanation
+abbrev pub slip_of : ℕ → Windows → Citing → Rule → ℕ → ℕ → Effect → Explanation
 slip_of n W c r e y x =
     record {
-      rule = pos r;
+      rule = pos (number_of r);
       subject = pos e;
       target = pos y;
-      kind = pos (concluded_kind (rule r) (effect_of x));
+      kind = pos (concluded_kind r (effect_of x));
       value = concluded_value (effect_of x);
       premises = premise_list n (cites_of c W) (says_of c W);
     }
 
--- It can be written: rule, subject and target are small, the windows in range.
-pub record Writes (n : ℕ) (W : Windows) (c : Citing) (r e y : ℕ) : Type 0 where
+-- It can be written: subject and target are small, the windows in range.
+pub record Writes (n : ℕ) (W : Windows) (c : Citing) (e y : ℕ) : Type 0 where
   pub ranged : Ranged n W
   pub known : Known n c
-  pub first : 1 ≤ r
-  pub last : r ≤ 18
   pub subject : e ≤ 256
   pub target : y ≤ 64
 
 -- ---- read
 
--- A word that is the number r of a rule, and one that is none.
-pub record Numbers (w : ℤ) (r : ℕ) : Type 0 where
-  pub known : known_rule w ≡ true
-  pub is : pos r ≡ w
-  pub low : 1 ≤ r
-  pub high : r ≤ 18
-  pub apart : 14 < r → 17 ≤ r
-
-abbrev pub Ruled : ℤ → Option ℕ → Type 0
-Ruled w r = MatchOption r (known_rule w ≡ false) (Numbers w)
+-- A word that is the number of a rule, and one that is none.
+abbrev pub Ruled : ℤ → Option Named → Type 0
+Ruled w r =
+    MatchOption r (known_rule w ≡ false) (λ q. (known_rule w ≡ true) × (w ≡ pos (number_of (rule_of q))))
 
 -- A word that is a number m of facts, and one that is none.
 pub record Counts (w : ℤ) (m : ℕ) : Type 0 where
@@ -81,7 +75,7 @@ Gives s r t = MatchOption r (premises_in s.words.now ≡ []) (λ f. premises_in 
 abbrev pub headed : Slip → List Premise → Explanation
 headed s fs =
     record {
-      rule = pos s.rule;
+      rule = pos (number_of (rule_of s.rule));
       subject = s.subject.0;
       target = s.target.0;
       kind = s.kind.0;
@@ -97,15 +91,9 @@ abbrev pub reading_of : Option (Slip × ℕ) → Reading
 reading_of (Some r) = slip (explanation_of r.0) r.1
 reading_of None = cut
 
--- The rule of a slip that was read.
-pub record Stands (s : Slip) : Type 0 where
-  pub rule_low : 1 ≤ s.rule
-  pub rule_high : s.rule ≤ 18
-  pub rule_apart : 14 < s.rule → 17 ≤ s.rule
-
 -- Where a slip read ends, before the trailer.
 abbrev pub Placed : ℕ → Option (Slip × ℕ) → Type 0
-Placed stop (Some r) = Stands r.0 × (r.1 ≤ stop)
+Placed stop (Some r) = r.1 ≤ stop
 Placed stop None = Unit {0}
 
 -- A list's trailer, its last three words.

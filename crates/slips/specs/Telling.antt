@@ -2,10 +2,12 @@
 use Rattle.std.specs.Prelude.{Bool, cond, List, [], ◌∷◌, ◌++◌, ℕ, leb, ℤ, pos, Option, Some, None}
 use Rattle.model.specs.Job.{End, t_min, t_max, h_min, h_max}
 use Rattle.model.specs.Standing.{Ranged}
-use Rattle.model.specs.Slips.{Premise, Explanation, quote, premise_list}
+use Rattle.model.specs.Slips.{Premise, Explanation, number, quote, premise_list}
 use Rattle.tables.specs.Board.{board}
-use Rattle.tables.specs.declared.Word.{Word}
+use Rattle.tables.specs.Ends.{end_of}
+use Rattle.tables.specs.declared.ends.Word.{Word}
 use Rattle.facts.specs.Quotes.{cites_of, says_of, Known}
+use Rattle.rules.specs.Values.{rule_of}
 use Rattle.facts.specs.declared.LagCiting.{LagCiting}
 use Rattle.slips.specs.Slip.{slip_of, Writes}
 use Rattle.slips.specs.declared.Header.{Header}
@@ -15,13 +17,13 @@ use Rattle.slips.specs.declared.writing.Quoting.{Quoting}
 -- ---- of one event
 
 -- One fact or none.
-abbrev pub told : ℕ → ℕ → Option Word → List Premise
-told y kind (Some w) = record { event = pos y; kind = pos kind; value = w.0 } ∷ []
-told y kind None = []
+abbrev pub told : ℕ → End → Option Word → List Premise
+told y k (Some w) = record { event = pos y; kind = pos (number k); value = w.0 } ∷ []
+told y k None = []
 
 -- Those of event z.
 abbrev pub told_by : ℕ → EventFacts → List Premise
-told_by z f = told z 1 f.lower ++ (told z 2 f.upper ++ told z f.kind f.height)
+told_by z f = told z t_min f.lower ++ (told z t_max f.upper ++ told z (end_of f.end) f.height)
 
 -- Those of event z, where c says which are quoted and v what is said of them.
 abbrev pub premises_of : (ℕ → End → Bool) → (ℕ → End → ℤ) → ℕ → List Premise
@@ -40,16 +42,16 @@ told_by_lag c =
 -- ---- of a slip
 
 abbrev pub quoted_by : Quoting → List Premise
-quoted_by q = premise_list q.events (cites_of q.cited (board q.board.now)) (says_of q.cited (board q.board.now))
+quoted_by q = premise_list q.events (cites_of q.cited (board q.board.now.words)) (says_of q.cited (board q.board.now.words))
 
 -- They can be written: the windows in range, a lag's events among those of the board.
 pub record Quotable (q : Quoting) : Type 0 where
-  pub ranged : Ranged q.events (board q.board.now)
+  pub ranged : Ranged q.events (board q.board.now.words)
   pub known : Known q.events q.cited
 
 -- The slip with a header and these facts; it can be written.
 abbrev pub written_by : Header → Quoting → Explanation
-written_by h q = slip_of q.events (board q.board.now) q.cited h.rule h.subject h.target h.effect
+written_by h q = slip_of q.events (board q.board.now.words) q.cited (rule_of h.rule) h.subject h.target h.effect
 
 abbrev pub Writable : Header → Quoting → Type 0
-Writable h q = Writes q.events (board q.board.now) q.cited h.rule h.subject h.target
+Writable h q = Writes q.events (board q.board.now.words) q.cited h.subject h.target

@@ -10,7 +10,7 @@ pub mod reading; // reading.rt: a slip, its facts and the trailer read from a li
 ghost use Rattle.std.specs.Prelude.{◌≡◌, ◌≤◌};
 ghost use Rattle.model.specs.Slips.{slip_length};
 
-use rules::Effect;
+use rules::{Effect, Rule};
 use tables::Word;
 
 // The trailer's last word.
@@ -38,7 +38,7 @@ pub fn slip_length(facts: usize) -> usize
 // What a slip that is written says beside its facts: the rule tried, its subject and target, and the effect.
 #[derive(Clone, Copy)]
 pub struct Header {
-    pub rule: usize,
+    pub rule: Rule,
     pub subject: usize,
     pub target: usize,
     pub effect: Effect,
@@ -47,7 +47,7 @@ pub struct Header {
 // A slip that was read: its header and its facts.
 #[derive(Clone, Copy)]
 pub struct Slip<'a> {
-    pub rule: usize,
+    pub rule: Rule,
     pub subject: Word,
     pub target: Word,
     pub kind: Word,

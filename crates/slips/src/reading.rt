@@ -5,13 +5,14 @@ ghost use Rattle.slips.specs.Slip.{Ruled, Counted, premise_of, premise_at, readi
 
 use crate::words::{between, index, word_at, word_is};
 use crate::{Fact, Facts, HEAD_WORDS, MOST_FACTS, Slip, Trailer, slip_length};
+use rules::Rule;
 use tables::Word;
 
-// The rule of which the word is the number: 1..14, 17 or 18.
-fn known_rule(w: Word) -> Option<usize>
+// The rule of which the word is the number.
+fn known_rule(w: Word) -> Option<Rule>
     ensures { Ruled w.0 result }
 {
-    (between(w, 1, 14) | between(w, 17, 18)).then(|| index(w))
+    Rule::try_from(w).ok()
 }
 
 // The number of facts that the word says: 0..256.

@@ -1,27 +1,27 @@
 // The facts of a slip counted, and written into a lent buffer.
 ghost use Rattle.std.specs.Prelude.{◌≡◌, cond, Bool, ℕ, ◌*◌, ◌<◌, ◌≤◌, ℤ, length};
 ghost use Rattle.integers.specs.Range.{Within};
-ghost use Rattle.model.specs.Job.{End, h_min, Windows};
+ghost use Rattle.model.specs.Job.{End as Ended, h_min, h_max, Windows};
 ghost use Rattle.model.specs.Standing.{Ranged};
 ghost use Rattle.model.specs.Slips.{premise_words, premise_list};
 ghost use Rattle.tables.specs.Board.{board};
+ghost use Rattle.tables.specs.Ends.{end_of};
 ghost use Rattle.slips.specs.Writing.{HasRoom, Wrote};
 ghost use Rattle.slips.specs.Telling.{told, told_by, premises_of, told_by_lag, quoted_by, Quotable};
 
 use crate::writer::Writer;
 use facts::premises::{quoted, total_quoted};
 use facts::{Citing, LagCiting, LevelCiting, TotalCiting};
-use tables::ends::{end_at, time_word};
-use tables::{Time, Word};
+use tables::{Board, End, Time, Word};
 
 // ---- one event
 
-// The facts of one event that a slip quotes, and what they say: t ≥, t ≤, and an amount with the kind of what is said of it.
+// The facts of one event that a slip quotes, and what they say: t ≥, t ≤, and the end of its amounts that a slip of a side quotes.
 #[derive(Clone, Copy)]
 pub struct EventFacts {
     pub lower: Option<Word>,
     pub upper: Option<Word>,
-    pub kind: usize,
+    pub end: End,
     pub height: Option<Word>,
 }
 
@@ -36,32 +36,31 @@ impl EventFacts {
     }
 }
 
-// The kind of the amount that is quoted: h ≤, in the mirror h ≥.
-fn height_kind(mirror: bool) -> usize
-    ensures { result ≡ cond mirror 3 4 }
+// The end of an amount that is quoted: h ≤, in the mirror h ≥.
+fn height_end(mirror: bool) -> End
+    ensures { end_of result ≡ cond mirror h_min h_max }
 {
-    if mirror { 3 } else { 4 }
+    if mirror { End::HMin } else { End::HMax }
 }
 
 // What is said of a time of an event: of the subject's own one thing, of the others' another.
 fn said(own: bool, first: Time, other: Time) -> Word
     ensures { result.0 ≡ cond own first.0 other.0 }
 {
-    time_word(if own { first } else { other })
+    Word::from(if own { first } else { other })
 }
 
 // What decides a slip's facts event by event.
 trait ByEvent {
     // Does the slip quote an end of an event, and what does it say of it?
-    ghost cites: { Self → Windows → ℕ → End → Bool };
+    ghost cites: { Self → Windows → ℕ → Ended → Bool };
 
-    ghost says: { Self → Windows → ℕ → End → ℤ };
+    ghost says: { Self → Windows → ℕ → Ended → ℤ };
 
     // The facts of event z.
-    fn event_facts(&self, b: &[i32; 256], z: usize) -> EventFacts
-        requires { (z < 64) × Within (board b.now z h_min) 9999 }
-        ensures told { told_by z result ≡ premises_of (cites self.now (board b.now)) (says self.now (board b.now)) z }
-        ensures kind { result.kind < 5 };
+    fn event_facts(&self, b: &Board, z: usize) -> EventFacts
+        requires { (z < 64) × Within (board b.now.words z h_min) 9999 }
+        ensures { told_by z result ≡ premises_of (cites self.now (board b.now.words)) (says self.now (board b.now.words)) z };
 }
 
 impl ByEvent for LevelCiting {
@@ -71,15 +70,15 @@ impl ByEvent for LevelCiting {
 
     ghost says = { level_said };
 
-    fn event_facts(&self, b: &[i32; 256], z: usize) -> EventFacts {
+    fn event_facts(&self, b: &Board, z: usize) -> EventFacts {
         let f = quoted(b, *self, z);
         let own = z == self.view.subject;
-        let kind = height_kind(self.view.mirror);
+        let end = height_end(self.view.mirror);
         EventFacts {
             lower: f.lower.then_some(said(own, self.from, self.after)),
             upper: f.upper.then_some(said(own, self.to, self.until)),
-            kind,
-            height: f.height.then_some(end_at(b, kind, z)),
+            end,
+            height: f.height.then_some(b.end(end, z)),
         }
     }
 }
@@ -91,13 +90,13 @@ impl ByEvent for TotalCiting {
 
     ghost says = { λ c W. W };
 
-    fn event_facts(&self, b: &[i32; 256], z: usize) -> EventFacts {
-        let kind = height_kind(self.mirror);
+    fn event_facts(&self, b: &Board, z: usize) -> EventFacts {
+        let end = height_end(self.mirror);
         EventFacts {
             lower: None,
             upper: None,
-            kind,
-            height: total_quoted(b, *self, z).then_some(end_at(b, kind, z)),
+            end,
+            height: total_quoted(b, *self, z).then_some(b.end(end, z)),
         }
     }
 }
@@ -105,9 +104,9 @@ impl ByEvent for TotalCiting {
 // ---- counted
 
 // The number of facts of n events.
-fn count_events<C: ByEvent>(b: &[i32; 256], n: usize, c: &C) -> usize
-    requires { Ranged n (board b.now) }
-    ensures { result ≡ length (premise_list n (C.cites c.now (board b.now)) (C.says c.now (board b.now))) }
+fn count_events<C: ByEvent>(b: &Board, n: usize, c: &C) -> usize
+    requires { Ranged n (board b.now.words) }
+    ensures { result ≡ length (premise_list n (C.cites c.now (board b.now.words)) (C.says c.now (board b.now.words))) }
 {
     let mut count = 0;
     for z in 0..n {
@@ -119,7 +118,7 @@ fn count_events<C: ByEvent>(b: &[i32; 256], n: usize, c: &C) -> usize
 // What a slip quotes: the facts cited, of the events on a board.
 #[derive(Clone, Copy)]
 pub struct Quoting<'a> {
-    pub board: &'a [i32; 256],
+    pub board: &'a Board,
     pub events: usize,
     pub cited: Citing,
 }
@@ -142,32 +141,32 @@ impl<'a> Quoting<'a> {
 
 impl<'a> Writer<'a> {
     // A fact of event y appended, if there is one.
-    fn put_fact(&mut self, y: usize, kind: usize, fact: Option<Word>)
-        requires { HasRoom (3 * length (told y kind fact)) self.old × (y < 64) × (kind < 5) }
-        ensures words { Wrote (premise_words (told y kind fact)) self.old self.new }
+    fn put_fact(&mut self, y: usize, end: End, fact: Option<Word>)
+        requires { HasRoom (3 * length (told y (end_of end) fact)) self.old × (y < 64) }
+        ensures words { Wrote (premise_words (told y (end_of end) fact)) self.old self.new }
         ensures same_buffer { self.new.words.ghost_name ≡ self.old.words.ghost_name }
     {
         if let Some(value) = fact {
-            self.put([y as i32, kind as i32, value.0]);
+            self.put([y as i32, end.kind() as i32, value.0]);
         }
     }
 
     // The facts of event z appended.
     fn put_event(&mut self, z: usize, f: &EventFacts)
-        requires { HasRoom (3 * length (told_by z f.now)) self.old × (z < 64) × (f.now.kind < 5) }
+        requires { HasRoom (3 * length (told_by z f.now)) self.old × (z < 64) }
         ensures words { Wrote (premise_words (told_by z f.now)) self.old self.new }
         ensures same_buffer { self.new.words.ghost_name ≡ self.old.words.ghost_name }
     {
-        self.put_fact(z, 1, f.lower);
-        self.put_fact(z, 2, f.upper);
-        self.put_fact(z, f.kind, f.height);
+        self.put_fact(z, End::TMin, f.lower);
+        self.put_fact(z, End::TMax, f.upper);
+        self.put_fact(z, f.end, f.height);
     }
 
     // The facts of n events appended, event by event.
-    fn put_events<C: ByEvent>(&mut self, b: &[i32; 256], n: usize, c: &C)
-        requires { Ranged n (board b.now)
-            × HasRoom (3 * length (premise_list n (C.cites c.now (board b.now)) (C.says c.now (board b.now)))) self.old }
-        ensures words { Wrote (premise_words (premise_list n (C.cites c.now (board b.now)) (C.says c.now (board b.now))))
+    fn put_events<C: ByEvent>(&mut self, b: &Board, n: usize, c: &C)
+        requires { Ranged n (board b.now.words)
+            × HasRoom (3 * length (premise_list n (C.cites c.now (board b.now.words)) (C.says c.now (board b.now.words)))) self.old }
+        ensures words { Wrote (premise_words (premise_list n (C.cites c.now (board b.now.words)) (C.says c.now (board b.now.words))))
             self.old self.new }
         ensures same_buffer { self.new.words.ghost_name ≡ self.old.words.ghost_name }
     {
@@ -182,14 +181,14 @@ impl<'a> Writer<'a> {
         ensures words { Wrote (premise_words (told_by_lag c.now)) self.old self.new }
         ensures same_buffer { self.new.words.ghost_name ≡ self.old.words.ghost_name }
     {
-        let starts = c.starts.then_some(time_word(c.from));
-        let ends = c.ends.then_some(time_word(c.to));
+        let starts = c.starts.then_some(c.from.into());
+        let ends = c.ends.then_some(c.to.into());
         if c.a <= c.b {
-            self.put_fact(c.a, 1, starts);
-            self.put_fact(c.b, 2, ends);
+            self.put_fact(c.a, End::TMin, starts);
+            self.put_fact(c.b, End::TMax, ends);
         } else {
-            self.put_fact(c.b, 2, ends);
-            self.put_fact(c.a, 1, starts);
+            self.put_fact(c.b, End::TMax, ends);
+            self.put_fact(c.a, End::TMin, starts);
         }
     }
 

@@ -18,7 +18,7 @@ returns-in_err-count c =
     let a = c.args in
     let r = rw c.word_at.ensures at c.in_ok-rule.ensures in
     let e = rw c.word_at-2.ensures at c.in_err-count.ensures in
-    rw c.from_residual-in_err-count.ensures (not_count a.list.now a.stop a.p c.if-stop-p-le-HEAD_WORDS.false r.known e, tt)
+    rw c.from_residual-in_err-count.ensures (not_count a.list.now a.stop a.p c.if-stop-p-le-HEAD_WORDS.false r.0 e, tt)
 
 pub returns-then-stop-p : goal.returns-then-stop-p
 returns-then-stop-p c =
@@ -26,7 +26,7 @@ returns-then-stop-p c =
     let r = rw c.word_at.ensures at c.in_ok-rule.ensures in
     let m = rw c.word_at-2.ensures at c.in_ok-count.ensures in
     let size = rw m.is at c.slip_length-size.ensures in
-    (not_all a.list.now a.stop a.p c.if-stop-p-le-HEAD_WORDS.false r.known m.within size c.if-stop-p.true, tt)
+    (not_all a.list.now a.stop a.p c.if-stop-p-le-HEAD_WORDS.false r.0 m.within size c.if-stop-p.true, tt)
 
 pub returns-then-not-word_is : goal.returns-then-not-word_is
 returns-then-not-word_is c =
@@ -35,7 +35,7 @@ returns-then-not-word_is c =
     let m = rw c.word_at-2.ensures at c.in_ok-count.ensures in
     let size = rw m.is at c.slip_length-size.ensures in
     let e = rw c.word_at-3.ensures at c.if-not-word_is.ensures in
-    (not_length a.list.now a.stop a.p c.if-stop-p-le-HEAD_WORDS.false r.known m.within size refl c.if-stop-p.false (sym e), tt)
+    (not_length a.list.now a.stop a.p c.if-stop-p-le-HEAD_WORDS.false r.0 m.within size refl c.if-stop-p.false (sym e), tt)
 
 pub returns : goal.returns
 returns c =
@@ -44,7 +44,7 @@ returns c =
     let m = rw c.word_at-2.ensures at c.in_ok-count.ensures in
     let size = rw m.is at c.slip_length-size.ensures in
     let e = rw c.word_at-3.ensures at c.if-not-word_is.ensures in (
-      slip_is a.list.now a.stop a.p c.if-stop-p-le-HEAD_WORDS.false r.known m.within size refl c.if-stop-p.false c.requires.1 (sym e)
-          r.is c.word_at-4.ensures c.word_at-5.ensures c.word_at-6.ensures c.word_at-7.ensures refl,
-      (record { rule_low = r.low; rule_high = r.high; rule_apart = r.apart }, omega arith),
+      slip_is a.list.now a.stop a.p c.if-stop-p-le-HEAD_WORDS.false r.0 m.within size refl c.if-stop-p.false c.requires.1 (sym e)
+          (sym r.1) c.word_at-4.ensures c.word_at-5.ensures c.word_at-6.ensures c.word_at-7.ensures refl,
+      omega arith,
     )

@@ -7,4 +7,4 @@ use Rattle.model.specs.Slips.{premise_list}
 use Rattle.slips.proofs.writing.count_events.Given as goal
 
 abbrev pub invariant-loop-z : goal.invariant-loop-z
-invariant-loop-z g l = (l.count ≡ length (premise_list l.z (g.C.ByEvent.cites l.c (board l.b)) (g.C.ByEvent.says l.c (board l.b)))) × (l.count ≤ 3 * l.z)
+invariant-loop-z g l = (l.count ≡ length (premise_list l.z (g.C.ByEvent.cites l.c (board l.b.words)) (g.C.ByEvent.says l.c (board l.b.words)))) × (l.count ≤ 3 * l.z)

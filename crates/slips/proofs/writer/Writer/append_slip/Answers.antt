@@ -10,7 +10,7 @@ put_head-requires c =
     let p = c.requires.0 in
     let few = few_facts c.args.q.now.cited p.ranged in
     let count = c.requires.1 in
-    (omega (arith, c.requires.2), p.first, p.last, p.subject, p.target, omega arith)
+    (omega (arith, c.requires.2), p.subject, p.target, omega arith)
 
 pub put_facts-requires : goal.put_facts-requires
 put_facts-requires c =

@@ -8,4 +8,4 @@ use Rattle.slips.proofs.writer.Writer.put_events.Given as goal
 abbrev pub invariant-loop-z : goal.invariant-loop-z
 invariant-loop-z g l =
     (l.self.words.ghost_name ≡ l.initial.self.words.ghost_name)
-    × Wrote (premise_words (premise_list l.z (g.C.ByEvent.cites l.c (board l.b)) (g.C.ByEvent.says l.c (board l.b)))) l.initial.self l.self
+    × Wrote (premise_words (premise_list l.z (g.C.ByEvent.cites l.c (board l.b.words)) (g.C.ByEvent.says l.c (board l.b.words)))) l.initial.self l.self
