@@ -1,32 +1,25 @@
 -- Attempts one after the other: what was made of the state, and that the list only grows.
 -- Assumes nothing.
-use mathlib.Core.Path.{◌≡◌, refl, sym, ◌∙◌}
-use mathlib.Core.Bool.{Bool}
-use mathlib.Core.List.{List, [], ◌∷◌, ◌++◌}
-use Prim.Native.Nat.{ℕ, ◌+◌, ◌≤◌, ◌<◌}
+use mathlib.Core.Path.{◌≡◌, refl, sym, ap, ◌∙◌}
+use mathlib.Core.List.{List, ◌++◌}
+use Prim.Native.Nat.{ℕ, ◌+◌}
 use native.Mathlib.Omega.{arith}
-use lib.IntN.{ℤ, nat_abs}
-use lib.ListN.{length}
-use Rattle.model.specs.Job.{windows, lag_word, Reservoir, Job as Call}
+use lib.IntN.{ℤ}
+use Rattle.std.specs.Borrow.{GName}
+use Rattle.model.specs.Job.{windows, Job as Call}
 use Rattle.model.proofs.Agree.{Agree}
-use Rattle.model.specs.Rules.{Family, level, time, height, reservoir, rule}
-use Rattle.model.specs.Agenda.{Attempt, try, each_of, lag_attempts, target_attempts, three_attempts, event_attempts}
-use Rattle.model.specs.Rounds.{made}
+use Rattle.model.specs.Agenda.{Attempt, each_of}
+use Rattle.model.specs.Rounds.{State, made}
 use Rattle.model.proofs.Sweeps.{made_append, made_more}
 use Rattle.tables.specs.Board.{board, table_of}
 use Rattle.tables.proofs.Boarding.{windows_board}
 use Rattle.tables.proofs.Holding.{serves_alike}
-use Rattle.tables.specs.Job.{reservoir_of, Holds, Fit}
+use Rattle.tables.specs.Job.{Holds}
 use Rattle.tables.specs.declared.Job.{Job}
-use Rattle.tables.specs.declared.Height.{Height}
-use Rattle.levels.specs.Values.{Views}
-use Rattle.levels.specs.declared.View.{View as Sight}
-use Rattle.levels.proofs.Viewing.{subject_is}
-use Rattle.rules.specs.Values.{subjects_of, Tries}
 use Rattle.slips.proofs.Wording.{drop_later}
-use Rattle.rounds.specs.State.{state_of, Held, Grown, Made}
-use Rattle.rounds.specs.Sweeps.{Sees, Three, two_attempts}
-use Rattle.rounds.specs.declared.Progress.{Progress}
+use Rattle.rounds.specs.State.{room, state_of, Grown, Leads, fixed, Of, Moves, Made}
+use Rattle.rounds.specs.declared.Log.{Log}
+use Rattle.rounds.specs.declared.CageJob.{CageJob}
 
 -- The board and its window table hold the same windows.
 pub agree : (n : ℕ) (sent b : List ℤ) → Agree n (windows (table_of n sent b)) (board b)
@@ -34,104 +27,99 @@ agree n sent b y l k = windows_board n sent b y k l
 
 -- ---- the list grows
 
-pub grown_none : {n : ℕ} {b buffer : List ℤ} {p : Progress} → Held n b buffer p → Grown n buffer p b buffer p
-grown_none h = record { held = h; same = refl; after = refl; longer = omega arith; more = omega arith }
+pub grown_none : (l : Log) → Grown l l
+grown_none l = record { lent = refl; same = refl; after = refl; longer = omega arith; more = omega arith }
 
-pub grown_more : {n : ℕ} {buffer : List ℤ} {p : Progress} {b' buffer' : List ℤ} {p' : Progress} {b'' buffer'' : List ℤ} {p'' : Progress}
-    → Grown n buffer p b' buffer' p' → Grown n buffer' p' b'' buffer'' p'' → Grown n buffer p b'' buffer'' p''
-grown_more {buffer = buffer} {buffer' = buffer'} {p' = p'} {p'' = p''} g h =
+pub grown_more : {l l' l'' : Log} → Grown l l' → Grown l' l'' → Grown l l''
+grown_more {l} {l'} {l''} g h =
     record {
-      held = h.held;
+      lent = h.lent ∙ g.lent;
       same = h.same ∙ g.same;
-      after = h.after ∙ drop_later buffer' buffer p'.used p''.used h.longer g.after;
+      after = h.after ∙ drop_later l'.buffer.now l.buffer.now l'.used l''.used h.longer g.after;
       longer = omega arith;
       more = omega arith;
     }
 
--- ---- attempts in turn
+-- ---- on a board
 
-module _ {k : Job} {ws : List ℤ} where
-  -- None.
-  pub made_none : (f : ℕ → Call → List Attempt) {b buffer : List ℤ} {p : Progress} → Held k.events b buffer p → Made k ws (λ j. each_of (λ i. f i j) 0 0) b buffer p b buffer p
-  unfolding each_of made
-  made_none f h = record { is = λ j q. refl; kinds = λ y l. refl; grown = grown_none h }
+module _ {n : ℕ} {P : Call → Type 0} where
+  -- Nothing is done.
+  pub leads_none : {f : Call → State → State} {b : List ℤ} {l : Log} → ((j : Call) → P j → f j (state_of n j.window_table b l) ≡ state_of n j.window_table b l) → Leads n P f b l b l
+  leads_none {l = l} h = record { is = λ j q. sym (h j q); kinds = λ y m. refl; grown = grown_none l }
 
-  module _ {b buffer : List ℤ} {p : Progress} {b' buffer' : List ℤ} {p' : Progress} {b'' buffer'' : List ℤ} {p'' : Progress} where
-    -- These, then those: the room is the buffer's length and stays.
-    pub made_both : (f g : Call → List Attempt) → Made k ws f b buffer p b' buffer' p' → Made k ws g b' buffer' p' b'' buffer'' p'' → Made k ws (λ j. f j ++ g j) b buffer p b'' buffer'' p''
-    made_both f g m o =
-        record {
-          is = λ j q. o.is j (serves_alike q m.kinds) ∙ rw (m.grown.same, m.is j q) (sym (made_append (length buffer) j (f j) (g j) (state_of k.events j.window_table b buffer p)));
-          kinds = λ y l. o.kinds y l ∙ m.kinds y l;
-          grown = grown_more m.grown o.grown;
-        }
+  -- The same in other words.
+  pub leads_as : {f g : Call → State → State} {b : List ℤ} {l : Log} {b' : List ℤ} {l' : Log} → ((j : Call) → P j → (s : State) → f j s ≡ g j s) → Leads n P f b l b' l' → Leads n P g b l b' l'
+  leads_as {b = b} {l} h d = record { is = λ j q. d.is j q ∙ h j q (state_of n j.window_table b l); kinds = d.kinds; grown = d.grown }
+
+  -- First these attempts, then those: the room is the buffer's length and stays.
+  leads_then : {Q : Call → Type 0} (todo more all : Call → List Attempt) {b : List ℤ} {l : Log} {b₁ : List ℤ} {l₁ : Log} {b₂ : List ℤ} {l₂ : Log}
+      → ((r : ℕ) (j : Call) (s : State) → made r j (all j) s ≡ made r j (more j) (made r j (todo j) s)) → Leads n P (λ j. made (room l) j (todo j)) b l b₁ l₁
+      → ((j : Call) → P j → Q j) → Leads n Q (λ j. made (room l₁) j (more j)) b₁ l₁ b₂ l₂ → Leads n P (λ j. made (room l) j (all j)) b l b₂ l₂
+  leads_then todo more all {b} {l} {b₁} {l₁} splits d next e =
+      record {
+        is = λ j q.
+            e.is j (next j q)
+            ∙ ap (λ r. made r j (more j) (state_of n j.window_table b₁ l₁)) d.grown.same
+            ∙ ap (made (room l) j (more j)) (d.is j q)
+            ∙ sym (splits (room l) j (state_of n j.window_table b l));
+        kinds = λ y m. e.kinds y m ∙ d.kinds y m;
+        grown = grown_more d.grown e.grown;
+      }
+
+  module _ {Q : Call → Type 0} {b : List ℤ} {l : Log} {b₁ : List ℤ} {l₁ : Log} {b₂ : List ℤ} {l₂ : Log} where
+    pub leads_both : (f g : Call → List Attempt) → Leads n P (λ j. made (room l) j (f j)) b l b₁ l₁ → ((j : Call) → P j → Q j) → Leads n Q (λ j. made (room l₁) j (g j)) b₁ l₁ b₂ l₂ → Leads n P (λ j. made (room l) j (f j ++ g j)) b l b₂ l₂
+    leads_both f g d next e = leads_then f g (λ j. f j ++ g j) (λ r j s. made_append r j (f j) (g j) s) d next e
 
     -- In a loop: those so far, then those of i.
-    pub made_on : (f : ℕ → Call → List Attempt) (i : ℕ) → Made k ws (λ j. each_of (λ i. f i j) 0 i) b buffer p b' buffer' p' → Made k ws (f i) b' buffer' p' b'' buffer'' p'' → Made k ws (λ j. each_of (λ i. f i j) 0 (i + 1)) b buffer p b'' buffer'' p''
-    made_on f i m o =
-        record {
-          is = λ j q. o.is j (serves_alike q m.kinds) ∙ rw (m.grown.same, m.is j q) (sym (made_more (length buffer) j (λ i. f i j) i (state_of k.events j.window_table b buffer p)));
-          kinds = λ y l. o.kinds y l ∙ m.kinds y l;
-          grown = grown_more m.grown o.grown;
-        }
+    pub leads_on : (f : ℕ → Call → List Attempt) (i : ℕ) → Leads n P (λ j. made (room l) j (each_of (λ i. f i j) 0 i)) b l b₁ l₁ → ((j : Call) → P j → Q j) → Leads n Q (λ j. made (room l₁) j (f i j)) b₁ l₁ b₂ l₂ → Leads n P (λ j. made (room l) j (each_of (λ i. f i j) 0 (i + 1))) b l b₂ l₂
+    leads_on f i d next e = leads_then (λ j. each_of (λ i. f i j) 0 i) (f i) (λ j. each_of (λ i. f i j) 0 (i + 1)) (λ r j s. made_more r j (λ i. f i j) i s) d next e
 
-  -- The same list in other words.
-  pub made_as : {f g : Call → List Attempt} {b buffer : List ℤ} {p : Progress} {b' buffer' : List ℤ} {p' : Progress} → ((j : Call) → Holds k ws j → f j ≡ g j) → Made k ws f b buffer p b' buffer' p' → Made k ws g b buffer p b' buffer' p'
-  made_as e m = record { is = λ j q. rw (← e j q.holds) (m.is j q); kinds = m.kinds; grown = m.grown }
+-- No attempt.
+pub leads_nothing : {n : ℕ} {P : Call → Type 0} (f : ℕ → Call → List Attempt) (b : List ℤ) (l : Log) → Leads n P (λ j. made (room l) j (each_of (λ i. f i j) 0 0)) b l b l
+unfolding each_of made
+leads_nothing f b l = leads_none (λ j q. refl)
 
--- Rules 1 and 2 of a lag, at its events.
-pub lag_made : {k : Job} {ws : List ℤ} (g : ℕ) {a z : ℕ} {b buffer : List ℤ} {p : Progress} {b' buffer' : List ℤ} {p' : Progress} {b'' buffer'' : List ℤ} {p'' : Progress} → a ≡ nat_abs (lag_word ws g 0) → z ≡ nat_abs (lag_word ws g 1)
-    → Made k ws (λ j. try 1 g a ∷ []) b buffer p b' buffer' p' → Made k ws (λ j. try 2 g z ∷ []) b' buffer' p' b'' buffer'' p'' → Made k ws (λ j. lag_attempts j g) b buffer p b'' buffer'' p''
-lag_made {k} {ws} g {a} {z} i l first second =
-    made_as {f = λ j. try 1 g a ∷ try 2 g z ∷ []} {g = λ j. lag_attempts j g} (λ j h. rw (h.lags_are, i, l)) (made_both (λ j. try 1 g a ∷ []) (λ j. try 2 g z ∷ []) first second)
+-- ---- in the job at hand
 
--- ---- the rules tried
+module _ {x y : GName × List ℤ × Job} (e : x ≡ y) where
+  pub job_is : x.2 ≡ y.2
+  job_is = ap (λ (x : GName × List ℤ × Job). x.2) e
 
-module _ {k : Job} {ws b buffer : List ℤ} {p : Progress} (fit : Fit k ws) (held : Held k.events b buffer p) where
-  pub tries : (r : ℕ) {g y : ℕ} → 1 ≤ r → r ≤ 14 → g < subjects_of (rule r) k ws → y < k.events → Tries k ws (board b) r g y
-  tries r a z l m = record { fit = fit; windows = held.ranged; first = a; last = z; subject = l; target = m }
+  pub lags_are : x.1 ≡ y.1
+  lags_are = ap (λ (x : GName × List ℤ × Job). x.1) e
 
-  pub tries_seen : {r y : ℕ} {f : Family} {v : Sight} → Sees k r f v → y < k.events → Tries k ws (board b) r v.subject y
-  tries_seen {v = v} s m =
-      record { fit = fit; windows = held.ranged; first = omega (arith, s.first); last = s.last; subject = rw s.rule_is s.subject; target = m }
+-- Attempts that do nothing on the board do nothing in the job.
+pub made_rest : (todo : Call → List Attempt) {k k' : CageJob} {l : Log} → fixed k' ≡ fixed k → k'.board.now.words ≡ k.board.now.words → Leads k.job.events (Of k) (λ j. made (room l) j (todo j)) k.board.now.words l k.board.now.words l → Made todo k l k' l
+made_rest todo e q d = record { leads = rw q d; stays = e }
 
--- ---- three rules in a row
+-- From the same job on the same board the same is done, and to it.
+pub moves_from : {f : Call → State → State} {k k₁ k' : CageJob} {l l' : Log} → fixed k₁ ≡ fixed k → k₁.board.now.words ≡ k.board.now.words → Moves f k₁ l k' l' → Moves f k l k' l'
+moves_from e q m = record { leads = rw (job_is e, lags_are e, q) at m.leads; stays = m.stays ∙ e }
 
--- A view says itself what it is of.
-module _ {n : ℕ} {c : Reservoir} {m b : Bool} {e : ℕ} {v : Sight} (s : Views n c m b e v) where
-  own_view : Views n c v.mirror v.strict v.subject v
-  own_view = record { is = λ W. s.is W ∙ rw (s.side_is, s.strict_is, subject_is s); side_is = refl; strict_is = refl }
+pub moves_to : {f : Call → State → State} {k k' k₁ : CageJob} {l l' : Log} → fixed k₁ ≡ fixed k' → k₁.board.now.words ≡ k'.board.now.words → Moves f k l k' l' → Moves f k l k₁ l'
+moves_to e q m = record { leads = rw q m.leads; stays = e ∙ m.stays }
 
--- They are the families' of the view at e of a side, before or by.
-module _ (k : Job) {m b : Bool} {e : ℕ} {v : Sight} (s : Views k.events (reservoir_of k.reservoir) m b e v) (l : e < k.events) where
-  sees : (r : ℕ) {f : Family} → 3 ≤ r → r ≤ 14 → rule r ≡ reservoir m b f → Sees k r f v
-  sees r low high i = record { first = low; last = high; rule_is = i ∙ rw (s.side_is, s.strict_is); views = own_view s; subject = rw (subject_is s) l }
+pub made_none : (f : ℕ → Call → List Attempt) (k : CageJob) (l : Log) → Made (λ j. each_of (λ i. f i j) 0 0) k l k l
+made_none f k l = record { leads = leads_nothing f k.board.now.words l; stays = refl }
 
-  module _ {r : ℕ} (t : Three r m b) where
-    pub sees_level : Sees k r level v
-    sees_level = sees r t.first (omega (arith, t.last)) t.level_is
+module _ {k : CageJob} {l : Log} {k₁ : CageJob} {l₁ : Log} {k₂ : CageJob} {l₂ : Log} where
+  -- These, then those.
+  pub made_both : (f g : Call → List Attempt) → Made f k l k₁ l₁ → Made g k₁ l₁ k₂ l₂ → Made (λ j. f j ++ g j) k l k₂ l₂
+  made_both f g m o =
+      record {
+        leads = leads_both f g m.leads (λ j q. serves_alike q m.leads.kinds) (rw (job_is m.stays, lags_are m.stays) at o.leads);
+        stays = o.stays ∙ m.stays;
+      }
 
-    pub sees_time : Sees k (r + 1) time v
-    sees_time = sees (r + 1) (omega (arith, t.first)) (omega (arith, t.last)) t.time_is
+  -- In a loop: those so far, then those of i.
+  pub made_on : (f : ℕ → Call → List Attempt) (i : ℕ) → Made (λ j. each_of (λ i. f i j) 0 i) k l k₁ l₁ → Made (f i) k₁ l₁ k₂ l₂ → Made (λ j. each_of (λ i. f i j) 0 (i + 1)) k l k₂ l₂
+  made_on f i m o =
+      record {
+        leads = leads_on f i m.leads (λ j q. serves_alike q m.leads.kinds) (rw (job_is m.stays, lags_are m.stays) at o.leads);
+        stays = o.stays ∙ m.stays;
+      }
 
-    pub sees_height : Sees k (r + 2) height v
-    sees_height = sees (r + 2) (omega (arith, t.first)) (omega (arith, t.last)) t.height_is
-
--- In turn; all of them at e.
-module _ {k : Job} {ws : List ℤ} {b₀ buffer₀ : List ℤ} {p₀ : Progress} {b₁ buffer₁ : List ℤ} {p₁ : Progress} {b₂ buffer₂ : List ℤ} {p₂ : Progress} where
-  pub three_made : (r e : ℕ) {d : ℕ} → d ≡ e → Made k ws (λ j. two_attempts r d) b₀ buffer₀ p₀ b₁ buffer₁ p₁ → Made k ws (λ j. target_attempts j (r + 2) d) b₁ buffer₁ p₁ b₂ buffer₂ p₂
-      → Made k ws (λ j. three_attempts j r e) b₀ buffer₀ p₀ b₂ buffer₂ p₂
-  three_made r e i two targets = made_both (λ j. two_attempts r e) (λ j. target_attempts j (r + 2) e) (rw i at two) (rw i at targets)
-
-  pub event_made : (e : ℕ) {b₃ buffer₃ : List ℤ} {p₃ : Progress} {b₄ buffer₄ : List ℤ} {p₄ : Progress}
-      → Made k ws (λ j. three_attempts j 3 e) b₀ buffer₀ p₀ b₁ buffer₁ p₁ → Made k ws (λ j. three_attempts j 6 e) b₁ buffer₁ p₁ b₂ buffer₂ p₂
-      → Made k ws (λ j. three_attempts j 9 e) b₂ buffer₂ p₂ b₃ buffer₃ p₃ → Made k ws (λ j. three_attempts j 12 e) b₃ buffer₃ p₃ b₄ buffer₄ p₄
-      → Made k ws (λ j. event_attempts j e) b₀ buffer₀ p₀ b₄ buffer₄ p₄
-  event_made e before mirrored by mirrored-by =
-      let three : ℕ → Call → List Attempt = λ r j. three_attempts j r e in
-      made_both (three 3) (λ j. three 6 j ++ (three 9 j ++ three 12 j)) before
-      (made_both (three 6) (λ j. three 9 j ++ three 12 j) mirrored (made_both (three 9) (three 12) by mirrored-by))
-
--- What holds after either arm of a branch holds after the branch.
-pub joined : (P : List ℤ → List ℤ → Progress → Height → Type 0) {b b' buffer buffer' : List ℤ} {q q' : Progress} {d d' : Height} → b ≡ b' → buffer ≡ buffer' → q ≡ q' → d ≡ d' → P b' buffer' q' d' → P b buffer q d
-joined P i j k l x = rw (i, j, k, l) x
+-- The same list in other words.
+pub made_as : (f g : Call → List Attempt) {k : CageJob} {l : Log} {k' : CageJob} {l' : Log} → ((j : Call) → Holds k.job k.lags.now j → f j ≡ g j) → Made f k l k' l' → Made g k l k' l'
+made_as f g {l = l} e m =
+    record { leads = leads_as (λ j q s. ap (λ xs. made (room l) j xs s) (e j q.holds)) m.leads; stays = m.stays }

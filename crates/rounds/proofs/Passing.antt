@@ -3,10 +3,11 @@
 use mathlib.Core.Path.{◌≡◌, refl, sym, ap, subst, ◌∙◌}
 use mathlib.Core.Bool.{Bool, true, false}
 use mathlib.Core.List.{List, [], ◌∷◌}
-use Prim.Native.Nat.{ℕ, ◌+◌, ◌*◌, ◌/◌, ◌<◌}
+use Prim.Native.Nat.{ℕ, ◌+◌, ◌*◌, ◌/◌, ◌≤◌, ◌<◌}
+use native.Mathlib.Omega.{arith}
 use lib.IntN.{ℤ, ◌-ℤ◌}
 use lib.ListN.{length}
-use Rattle.model.specs.Job.{h_min, windows, Windows, lags, events, Job as Call}
+use Rattle.model.specs.Job.{h_min, windows, Windows, lags, events, Reservoir, Job as Call}
 use Rattle.model.specs.View.{side_end, side_limit, View, view, here, seen}
 use Rattle.model.specs.Levels.{most}
 use Rattle.model.specs.Rules.{Rule, rule, subjects, Family, level, time, height, reservoir, own_end}
@@ -15,78 +16,128 @@ use Rattle.model.specs.Rounds.{State, attempt, made}
 use Rattle.model.proofs.Agree.{most_agree, look_agree, outcome_agree}
 use Rattle.model.proofs.Silence.{Idle, Still, Quiet, made_still, targets_still, event_still, events_still, level_stays}
 use Rattle.tables.specs.Board.{board, table_of}
-use Rattle.tables.specs.Job.{reservoir_of, board_call, Serves, Fit}
-use Rattle.tables.specs.declared.Job.{Job}
+use Rattle.tables.specs.Job.{reservoir_of, board_call, Serves}
 use Rattle.tables.proofs.Boarding.{length_table}
 use Rattle.tables.proofs.Holding.{lags_of, board_serves, serves_alike}
-use Rattle.levels.specs.Values.{as_view, seen_by}
+use Rattle.levels.specs.Values.{as_view, seen_by, Views}
 use Rattle.levels.specs.declared.View.{View as Sight}
-use Rattle.levels.proofs.Viewing.{events_are, most_here}
+use Rattle.levels.proofs.Viewing.{events_are, subject_is, most_here}
 use Rattle.silence.specs.Slack.{slack_of, moves, some_move}
 use Rattle.silence.specs.Calm.{reaches_early, spread_of, calm, all_calm, lag_kept}
 use Rattle.silence.proofs.Sparing.{still_idle, none_moves}
 use Rattle.silence.proofs.Calming.{reached_apart, calm_quiet, all_calm_each, lag_idle}
-use Rattle.rounds.specs.State.{state_of, Held, Made}
-use Rattle.rounds.specs.Sweeps.{Sees, Leaves, two_attempts, events_attempts}
-use Rattle.rounds.specs.declared.Progress.{Progress}
-use Rattle.rounds.proofs.Moves.{agree, grown_none}
+use Rattle.rules.specs.Numbers.{number_of}
+use Rattle.rounds.specs.State.{room, state_of, fixed, Of, Moves, Made}
+use Rattle.rounds.specs.Attempts.{Tried}
+use Rattle.rounds.specs.Sweeps.{first_of, Seen, Leaves, two_attempts, events_attempts}
+use Rattle.rounds.specs.declared.Log.{Log}
+use Rattle.rounds.specs.declared.CageJob.{CageJob}
+use Rattle.rounds.proofs.Moves.{agree, leads_none, job_is, made_rest}
 
-module _ {k : Job} {ws b buffer : List ℤ} {p : Progress} (fit : Fit k ws) (held : Held k.events b buffer p) where
-  -- Attempts that would do nothing are as if made.
-  passed : (todo : Call → List Attempt) → ((j : Call) → Serves k ws (board b) j → Each (Still j (windows (table_of k.events j.window_table b))) (todo j)) → Made k ws todo b buffer p b buffer p
-  passed todo h = record { is = λ j q. sym (made_still (length buffer) j (state_of k.events j.window_table b buffer p) (todo j) (h j q)); kinds = λ y l. refl; grown = grown_none held }
+-- ---- the rules of a side at an event
 
-  -- What does nothing on the board does nothing to the table.
-  table_idle : (j : Call) → Serves k ws (board b) j → (x : Rule) (e y : ℕ) → e < subjects x j → y < k.events → Idle x j (board b) e y → Idle x j (windows (table_of k.events j.window_table b)) e y
-  table_idle j h x e y l m i = outcome_agree j (windows (table_of k.events j.window_table b)) (board b) (rw h.holds.events_are (agree k.events j.window_table b)) (lags_of h.holds fit) x e y l (rw h.holds.events_are m) ∙ i
+-- Rule r is the one of a family in the view v, which is the job's at one of its events.
+pub record Sees (k : CageJob) (r : ℕ) (f : Family) (v : Sight) : Type 0 where
+  pub rule_is : rule r ≡ reservoir v.mirror v.strict f
+  pub views : Views k.job.events (reservoir_of k.job.reservoir) v.mirror v.strict v.subject v
+  pub subject : v.subject < k.job.events
 
-  -- ---- a lag
+level_first : (m s : Bool) → rule (first_of m s) ≡ reservoir m s level
+level_first false true = refl
+level_first true true = refl
+level_first false false = refl
+level_first true false = refl
 
-  pub lag_passed : {g : ℕ} {t : Bool} → g < length ws / 3 → t ≡ lag_kept ws (board b) g → t ≡ true → Made k ws (λ j. lag_attempts j g) b buffer p b buffer p
-  lag_passed {g} l m e =
-      passed (λ j. lag_attempts j g) (λ j h.
-      let there : g < lags j = rw h.holds.lags_are l in
-      let both = lag_idle j (board b) g (rw h.holds.lags_are (sym m ∙ e)) in
-      let lag = lags_of h.holds fit g there in
-      (table_idle j h (rule 1) g _ there (rw h.holds.events_are at lag.real_a) both.0, (table_idle j h (rule 2) g _ there (rw h.holds.events_are at lag.real_b) both.1, tt)))
+time_next : (m s : Bool) → rule (first_of m s + 1) ≡ reservoir m s time
+time_next false true = refl
+time_next true true = refl
+time_next false false = refl
+time_next true false = refl
 
-  -- ---- rules 3 to 14 in a view
+height_last : (m s : Bool) → rule (first_of m s + 2) ≡ reservoir m s height
+height_last false true = refl
+height_last true true = refl
+height_last false false = refl
+height_last true false = refl
+
+-- Their numbers.
+pub level_number : (m s : Bool) → number_of (reservoir m s level) ≡ first_of m s
+level_number false true = refl
+level_number true true = refl
+level_number false false = refl
+level_number true false = refl
+
+pub time_number : (m s : Bool) → number_of (reservoir m s time) ≡ first_of m s + 1
+time_number false true = refl
+time_number true true = refl
+time_number false false = refl
+time_number true false = refl
+
+pub height_number : (m s : Bool) → number_of (reservoir m s height) ≡ first_of m s + 2
+height_number false true = refl
+height_number true true = refl
+height_number false false = refl
+height_number true false = refl
+
+-- A view says itself what it is of.
+module _ {n : ℕ} {c : Reservoir} {m b : Bool} {e : ℕ} {v : Sight} (s : Views n c m b e v) where
+  own_view : Views n c v.mirror v.strict v.subject v
+  own_view = record { is = λ W. s.is W ∙ rw (s.side_is, s.strict_is, subject_is s); side_is = refl; strict_is = refl }
+
+-- They are the families' of the view at e of a side, before or by.
+module _ (k : CageJob) {m b : Bool} {e : ℕ} {v : Sight} (s : Seen k m b e v) (l : e < k.job.events) where
+  sees : (r : ℕ) {f : Family} → rule r ≡ reservoir m b f → Sees k r f v
+  sees r i = record { rule_is = i ∙ rw (s.side_is, s.strict_is); views = own_view s; subject = rw (subject_is s) l }
+
+  pub sees_level : Sees k (first_of m b) level v
+  sees_level = sees (first_of m b) (level_first m b)
+
+  pub sees_time : Sees k (first_of m b + 1) time v
+  sees_time = sees (first_of m b + 1) (time_next m b)
+
+  pub sees_height : Sees k (first_of m b + 2) height v
+  sees_height = sees (first_of m b + 2) (height_last m b)
+
+-- After a move the view is the job's still.
+module _ {f : Call → State → State} {k : CageJob} {l : Log} {k' : CageJob} {l' : Log} (m : Moves f k l k' l') {e : ℕ} where
+  pub seen_next : {b s : Bool} {v : Sight} → Seen k b s e v → Seen k' b s e v
+  seen_next v = rw (job_is m.stays) v
+
+  pub there_next : e < k.job.events → e < k'.job.events
+  there_next l = rw (job_is m.stays) l
+
+-- They are tried at any event, and those of a lag at its events.
+pub tries_event : (k : CageJob) (m b : Bool) (f : Family) {e y : ℕ} → e < k.job.events → y < k.job.events → Tried k (reservoir m b f) e y
+tries_event k m b f l t = record { fit = k.fit; windows = k.held.ranged; subject = l; target = t }
+
+-- ---- what does nothing on the board does nothing to the table
+
+module _ (k : CageJob) where
+  -- The windows on the board, and in a call's table.
+  abbrev W : Windows
+  W = board k.board.now.words
+
+  abbrev U : Call → Windows
+  U j = windows (table_of k.job.events j.window_table k.board.now.words)
+
+  table_idle : (j : Call) → Of k j → (x : Rule) (e y : ℕ) → e < subjects x j → y < k.job.events → Idle x j W e y → Idle x j (U j) e y
+  table_idle j h x e y l m i = outcome_agree j (U j) W (rw h.holds.events_are (agree k.job.events j.window_table k.board.now.words)) (lags_of h.holds k.fit) x e y l (rw h.holds.events_are m) ∙ i
 
   module _ {r : ℕ} {f : Family} {v : Sight} (s : Sees k r f v) where
     -- What the rule of the family does not do on the board, rule r does not do to the table.
-    seen_still : (j : Call) → Serves k ws (board b) j → (y : ℕ) → y < k.events → Idle (reservoir v.mirror v.strict f) j (board b) v.subject y → Idle (rule r) j (windows (table_of k.events j.window_table b)) v.subject y
+    seen_still : (j : Call) → Of k j → (y : ℕ) → y < k.job.events → Idle (reservoir v.mirror v.strict f) j W v.subject y → Idle (rule r) j (U j) v.subject y
     seen_still j h y m i = rw s.rule_is (table_idle j h (reservoir v.mirror v.strict f) v.subject y (rw h.holds.events_are s.subject) m i)
 
-  pub two_passed : {r : ℕ} {v : Sight} {t : Bool} → Sees k r level v → Sees k (r + 1) time v → t ≡ reaches_early (as_view v (board b)) (seen_by v (board b)) → t ≡ true → Made k ws (λ j. two_attempts r v.subject) b buffer p b buffer p
-  two_passed {r} {v} first second m e =
-      passed (λ j. two_attempts r v.subject) (λ j h.
-      let there : v.subject < events j = rw h.holds.events_are first.subject in
-      let both = reached_apart v.mirror v.strict (board b) v.subject h there (subst (λ (E : View). reaches_early E (seen_by v (board b)) ≡ true) (first.views.is (board b)) (sym m ∙ e)) in
-      (seen_still first j h v.subject first.subject both.0, (seen_still second j h v.subject first.subject both.1, tt)))
-
-  module _ {r : ℕ} {v : Sight} {s : ℤ} (sees : Sees k r height v) (leaves : Leaves v b s) where
-    -- Where the level's slack does not move y.
-    target_still : (j : Call) → Serves k ws (board b) j → (y : ℕ) → y < k.events → moves (as_view v (board b)) (seen_by v (board b)) (board b) s y ≡ false → Idle (rule r) j (windows (table_of k.events j.window_table b)) v.subject y
-    target_still j h y m e =
-        let o = h.holds in
-        seen_still sees j h y m (still_idle v.mirror v.strict (board b) v.subject y h (rw o.events_are sees.subject) (rw o.events_are m) {k = s}
-        (subst (λ (E : View). s ≡ slack_of E (seen_by v (board b))) (sees.views.is (board b)) leaves)
-        (subst (λ (E : View). moves E (seen_by v (board b)) (board b) s y ≡ false) (sees.views.is (board b)) e))
-
-    pub target_passed : {y : ℕ} {t : Bool} → y < k.events → t ≡ moves (as_view v (board b)) (seen_by v (board b)) (board b) s y → t ≡ false → Made k ws (λ j. try r v.subject y ∷ []) b buffer p b buffer p
-    target_passed {y} l m e = passed (λ j. try r v.subject y ∷ []) (λ j h. (target_still j h y l (sym m ∙ e), tt))
-
-    pub targets_passed : {t : Bool} → t ≡ some_move (as_view v (board b)) (seen_by v (board b)) (board b) s → t ≡ false → Made k ws (λ j. target_attempts j r v.subject) b buffer p b buffer p
-    targets_passed m e =
-        passed (λ j. target_attempts j r v.subject) (λ j h.
-        let count = events_are sees.views in
-        let none = none_moves (as_view v (board b)) (seen_by v (board b)) (board b) s (rw count sees.subject) (sym m ∙ e) in
-        targets_still r j (windows (table_of k.events j.window_table b)) v.subject (λ y l. let l' = rw h.holds.events_are at l in target_still j h y l' (none y (rw count l'))))
-
-  -- ---- all rules at an event, and at all events
+  -- Where the level's slack does not move y.
+  target_still : {r : ℕ} {v : Sight} {s : ℤ} → Sees k r height v → Leaves v k.board.now.words s → (j : Call) → Of k j → (y : ℕ) → y < k.job.events → moves (as_view v W) (seen_by v W) W s y ≡ false → Idle (rule r) j (U j) v.subject y
+  target_still {v = v} {s} sees leaves j h y m e =
+      let o = h.holds in
+      seen_still sees j h y m (still_idle v.mirror v.strict W v.subject y h (rw o.events_are sees.subject) (rw o.events_are m) {k = s}
+      (subst (λ (E : View). s ≡ slack_of E (seen_by v W)) (sees.views.is W) leaves)
+      (subst (λ (E : View). moves E (seen_by v W) W s y ≡ false) (sees.views.is W) e))
 
   -- What is quiet on the board is quiet in the table.
-  table_quiet : (j : Call) → Serves k ws (board b) j → (e : ℕ) → e < events j → Quiet j (board b) e → Quiet j (windows (table_of k.events j.window_table b)) e
+  table_quiet : (j : Call) → Of k j → (e : ℕ) → e < events j → Quiet j W e → Quiet j (U j) e
   table_quiet j h e l q =
       let l' = rw h.holds.events_are at l in
       record {
@@ -95,42 +146,78 @@ module _ {k : Job} {ws b buffer : List ℤ} {p : Progress} (fit : Fit k ws) (hel
         height_quiet = λ m s y o. table_idle j h (reservoir m s height) e y l (rw h.holds.events_are at o) (q.height_quiet m s y o);
       }
 
-  module _ {d : ℤ} (spread : d ≡ spread_of k.events (board b)) where
-    calm_still : (e : ℕ) → calm k.events (reservoir_of k.reservoir) (board b) e d ≡ true → (j : Call) → Serves k ws (board b) j → e < events j → Quiet j (windows (table_of k.events j.window_table b)) e
-    calm_still e c j h l = table_quiet j h e l (calm_quiet (board b) e {d = d} h l spread c)
+  calm_still : {d : ℤ} → d ≡ spread_of k.job.events W → (e : ℕ) → calm k.job.events (reservoir_of k.job.reservoir) W e d ≡ true → (j : Call) → Of k j → e < events j → Quiet j (U j) e
+  calm_still {d} spread e c j h l = table_quiet j h e l (calm_quiet W e {d = d} h l spread c)
 
-    pub event_passed : {e : ℕ} {t : Bool} → e < k.events → t ≡ calm k.events (reservoir_of k.reservoir) (board b) e d → t ≡ true → Made k ws (λ j. event_attempts j e) b buffer p b buffer p
-    event_passed {e} l m i = passed (λ j. event_attempts j e) (λ j h. event_still j (windows (table_of k.events j.window_table b)) e (calm_still e (sym m ∙ i) j h (rw h.holds.events_are l)))
+  -- ---- what is passed over
 
-    pub events_passed : {t : Bool} → t ≡ all_calm k.events (reservoir_of k.reservoir) (board b) d → t ≡ true → Made k ws events_attempts b buffer p b buffer p
-    events_passed m i =
-        passed events_attempts (λ j h. events_still j (windows (table_of k.events j.window_table b)) (λ e l.
-        calm_still e (all_calm_each k.events (reservoir_of k.reservoir) (board b) e d held.ranged (rw h.holds.events_are at l) (sym m ∙ i)) j h l))
+  module _ (l : Log) {k' : CageJob} (stays : fixed k' ≡ fixed k) (same : k'.board.now.words ≡ k.board.now.words) where
+    -- Attempts that would do nothing are as if made.
+    passed : (todo : Call → List Attempt) → ((j : Call) → Of k j → Each (Still j (U j)) (todo j)) → Made todo k l k' l
+    passed todo h = made_rest todo stays same (leads_none (λ j q. made_still (room l) j (state_of k.job.events j.window_table k.board.now.words l) (todo j) (h j q)))
+
+    pub lag_passed : {g : ℕ} {t : Bool} → g < length k.lags.now / 3 → t ≡ lag_kept k.lags.now W g → t ≡ true → Made (λ j. lag_attempts j g) k l k' l
+    lag_passed {g} m i e =
+        passed (λ j. lag_attempts j g) (λ j h.
+        let there : g < lags j = rw h.holds.lags_are m in
+        let both = lag_idle j W g (rw h.holds.lags_are (sym i ∙ e)) in
+        let lag = lags_of h.holds k.fit g there in
+        (table_idle j h (rule 1) g _ there (rw h.holds.events_are at lag.real_a) both.0, (table_idle j h (rule 2) g _ there (rw h.holds.events_are at lag.real_b) both.1, tt)))
+
+    pub two_passed : {r e : ℕ} {v : Sight} {t : Bool} → Sees k r level v → Sees k (r + 1) time v → v.subject ≡ e → t ≡ reaches_early (as_view v W) (seen_by v W) → t ≡ true → Made (λ j. two_attempts r e) k l k' l
+    two_passed {r} {v = v} first second i m e =
+        subst (λ e. Made (λ j. two_attempts r e) k l k' l) i (passed (λ j. two_attempts r v.subject) (λ j h.
+        let there : v.subject < events j = rw h.holds.events_are first.subject in
+        let both = reached_apart v.mirror v.strict W v.subject h there (subst (λ (E : View). reaches_early E (seen_by v W) ≡ true) (first.views.is W) (sym m ∙ e)) in
+        (seen_still first j h v.subject first.subject both.0, (seen_still second j h v.subject first.subject both.1, tt))))
+
+    module _ {r e : ℕ} {v : Sight} {s : ℤ} (sees : Sees k r height v) (is : v.subject ≡ e) (leaves : Leaves v k.board.now.words s) where
+      pub target_passed : {y : ℕ} {t : Bool} → y < k.job.events → t ≡ moves (as_view v W) (seen_by v W) W s y → t ≡ false → Made (λ j. try r e y ∷ []) k l k' l
+      target_passed {y} m i f = subst (λ e. Made (λ j. try r e y ∷ []) k l k' l) is (passed (λ j. try r v.subject y ∷ []) (λ j h. (target_still sees leaves j h y m (sym i ∙ f), tt)))
+
+      pub targets_passed : {t : Bool} → t ≡ some_move (as_view v W) (seen_by v W) W s → t ≡ false → Made (λ j. target_attempts j r e) k l k' l
+      targets_passed m f =
+          subst (λ e. Made (λ j. target_attempts j r e) k l k' l) is (passed (λ j. target_attempts j r v.subject) (λ j h.
+          let count = events_are sees.views in
+          let none = none_moves (as_view v W) (seen_by v W) W s (rw count sees.subject) (sym m ∙ f) in
+          targets_still r j (U j) v.subject (λ y i. let i' = rw h.holds.events_are at i in target_still sees leaves j h y i' (none y (rw count i')))))
+
+    module _ {d : ℤ} (spread : d ≡ spread_of k.job.events W) where
+      pub event_passed : {e : ℕ} {t : Bool} → e < k.job.events → t ≡ calm k.job.events (reservoir_of k.job.reservoir) W e d → t ≡ true → Made (λ j. event_attempts j e) k l k' l
+      event_passed {e} m i c = passed (λ j. event_attempts j e) (λ j h. event_still j (U j) e (calm_still spread e (sym i ∙ c) j h (rw h.holds.events_are m)))
+
+      pub events_passed : {t : Bool} → t ≡ all_calm k.job.events (reservoir_of k.job.reservoir) W d → t ≡ true → Made events_attempts k l k' l
+      events_passed m i =
+          passed events_attempts (λ j h. events_still j (U j) (λ e o.
+          calm_still spread e (all_calm_each k.job.events (reservoir_of k.job.reservoir) W e d k.held.ranged (rw h.holds.events_are at o) (sym m ∙ i)) j h o))
 
 -- ---- the level stays
 
 -- An attempt of rules 5, 8, 11 and 14 leaves the level as it is.
-pub leaves_on : {k : Job} {ws b buffer : List ℤ} {p : Progress} {b' buffer' : List ℤ} {p' : Progress} {r y : ℕ} {v : Sight} {s : ℤ} → Sees k r height v → Leaves v b s → y < k.events
-    → Made k ws (λ j. try r v.subject y ∷ []) b buffer p b' buffer' p' → Leaves v b' s
+pub leaves_on : {k k' : CageJob} {l l' : Log} {r e y : ℕ} {v : Sight} {s : ℤ} → Sees k r height v → v.subject ≡ e → Leaves v k.board.now.words s → y < k.job.events
+    → Made (λ j. try r e y ∷ []) k l k' l' → Leaves v k'.board.now.words s
 unfolding made
-leaves_on {k} {ws} {b} {buffer} {p} {b'} {r = r} {y} {v} sees leaves l m =
-    let j = board_call k ws b in
-    let served = board_serves k ws b in
-    let next : Serves k ws (board b') j = serves_alike served m.kinds in
+leaves_on {k} {k'} {l} {l'} {r} {y = y} {v} sees i leaves m made =
+    let d : Made (λ j. try r v.subject y ∷ []) k l k' l' = rw i made in
+    let b = k.board.now.words in
+    let b' = k'.board.now.words in
+    let j = board_call k.job k.lags.now b in
+    let served = board_serves k.job k.lags.now b in
+    let next : Serves k.job k.lags.now (board b') j = serves_alike served d.leads.kinds in
     let h = served.holds in
-    let n = k.events in
+    let n = k.job.events in
     let e = v.subject in
     let sent = j.window_table in
-    let st = state_of n sent b buffer p in
+    let st = state_of n sent b l in
     let E = view j v.mirror v.strict e in
     let level : Windows → ℤ = λ W. most E (seen j v.mirror e W) in
     let own : own_end (rule r) ≡ side_end v.mirror h_min = rw sees.rule_is in
     let whole : length (table_of n sent b) ≡ 5 * events j = rw h.events_are (length_table n sent b) in
     let there : e < events j = rw h.events_are sees.subject in
     let same : (c : List ℤ) → level (windows (table_of n sent c)) ≡ level (board c) = λ c. most_agree E E.before (λ y l. refl) (seen j v.mirror e (windows (table_of n sent c))) (seen j v.mirror e (board c)) (look_agree (here j e) v.mirror (events j) (windows (table_of n sent c)) (board c) (rw h.events_are (agree n sent c))) there in
-    let stays = level_stays (length buffer) r j e y st v.mirror own whole (rw h.events_are l) v.strict there in
-    let table : windows (table_of n sent b') ≡ windows (attempt (length buffer) r j e y st).table = ap (λ (x : State). windows x.table) (m.is j served) in
+    let stays = level_stays (room l) r j e y st v.mirror own whole (rw h.events_are m) v.strict there in
+    let table : windows (table_of n sent b') ≡ windows (attempt (room l) r j e y st).table = ap (λ (x : State). windows x.table) (d.leads.is j served) in
     let is : level (board b) ≡ level (board b') = sym (same b) ∙ sym stays ∙ ap level (sym table) ∙ same b' in
-    let limit = side_limit v.mirror (reservoir_of k.reservoir) in
-    let at : (c : List ℤ) → Serves k ws (board c) j → slack_of (as_view v (board c)) (seen_by v (board c)) ≡ level (board c) -ℤ limit = λ c s. ap (λ (E : View). slack_of E (seen_by v (board c))) (sees.views.is (board c)) ∙ ap (λ x. x -ℤ limit) (sym (most_here v.mirror v.strict e (board c) s there)) in
+    let limit = side_limit v.mirror (reservoir_of k.job.reservoir) in
+    let at : (c : List ℤ) → Serves k.job k.lags.now (board c) j → slack_of (as_view v (board c)) (seen_by v (board c)) ≡ level (board c) -ℤ limit = λ c s. ap (λ (E : View). slack_of E (seen_by v (board c))) (sees.views.is (board c)) ∙ ap (λ x. x -ℤ limit) (sym (most_here v.mirror v.strict e (board c) s there)) in
     leaves ∙ at b served ∙ ap (λ x. x -ℤ limit) is ∙ sym (at b' next)

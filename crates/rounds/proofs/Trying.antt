@@ -22,21 +22,26 @@ use Rattle.model.specs.Rounds.{State, running, ended, recorded, fits, acted, att
 use Rattle.model.proofs.Agree.{Agree, agree_sym, outcome_agree, explanation_agree}
 use Rattle.model.proofs.Words.{slip_words_length, premise_list_length}
 use Rattle.tables.specs.Board.{Whole, board, table_of}
-use Rattle.tables.specs.Job.{Holds, Kinds, Serves, Fit}
+use Rattle.tables.specs.Job.{Holds, Fit}
 use Rattle.tables.specs.declared.Job.{Job}
 use Rattle.tables.proofs.Boarding.{table_set, board_set_same, board_set_event, board_set_end}
 use Rattle.tables.proofs.Holding.{lags_of}
-use Rattle.rules.specs.Values.{effect_of, is_idle, subjects_of, Narrower, Tries, Does}
+use Rattle.rules.specs.Values.{effect_of, is_idle, subjects_of, Narrower}
+use Rattle.rules.specs.Numbers.{number_of}
 use Rattle.rules.specs.declared.Effect.{Effect as Done}
+use Rattle.rules.proofs.Numbering.{rule_number}
 use Rattle.facts.specs.Quotes.{cites_of, says_of, Cites}
 use Rattle.facts.specs.declared.Citing.{Citing}
 use Rattle.slips.specs.Words.{Appended}
 use Rattle.slips.specs.Slip.{slip_of, Writes}
 use Rattle.slips.proofs.Filling.{same_premises}
-use Rattle.rounds.specs.State.{status_of, still, state_at, state_of, Held, Grown, Leads, Made}
-use Rattle.rounds.specs.Attempts.{stored, table_after, status_after, stopped_at, written, Roomy, Entered}
-use Rattle.rounds.specs.declared.Progress.{Progress}
-use Rattle.rounds.proofs.Moves.{agree, grown_none}
+use Rattle.rounds.specs.Held.{Held}
+use Rattle.rounds.specs.State.{status_of, still, room, state_at, state_of, Leads, fixed, Of, Moves, Made}
+use Rattle.rounds.specs.Attempts.{stored, table_after, status_after, written, Counted, Entered, Tried, Found}
+use Rattle.rounds.specs.declared.Status.TheVariants.{Stopped}
+use Rattle.rounds.specs.declared.Log.{Log}
+use Rattle.rounds.specs.declared.CageJob.{CageJob}
+use Rattle.rounds.proofs.Moves.{agree, leads_none, made_rest, moves_from}
 
 -- ---- the subject of a rule
 
@@ -72,20 +77,20 @@ tried_off running next s e = cc
 tried_off (ended v) next s e = refl
 
 -- None once the call has ended.
-pub attempt_ends : (room r : ℕ) (j : Call) (e y : ℕ) (s : State) → still s.status ≡ false → made room j (try r e y ∷ []) s ≡ s
+attempt_ends : (room r : ℕ) (j : Call) (e y : ℕ) (s : State) → still s.status ≡ false → made room j (try r e y ∷ []) s ≡ s
 attempt_ends room r j e y s h = attempt_tried room r j e y s ∙ tried_off s.status _ s h
 
 -- While it goes on, what its effect asks.
-pub attempt_does : (room r : ℕ) (j : Call) (e y : ℕ) (s : State) {x : Effect} → still s.status ≡ true → effect (own_end (rule r)) (windows s.table) y (finding (rule r) j (windows s.table) e y) ≡ x → made room j (try r e y ∷ []) s ≡ acted room r j e y x s
+attempt_does : (room r : ℕ) (j : Call) (e y : ℕ) (s : State) {x : Effect} → still s.status ≡ true → effect (own_end (rule r)) (windows s.table) y (finding (rule r) j (windows s.table) e y) ≡ x → made room j (try r e y ∷ []) s ≡ acted room r j e y x s
 attempt_does room r j e y s h q = attempt_tried room r j e y s ∙ rw (still_running s.status h, q)
 
-pub acted_idle : (room r : ℕ) (j : Call) (e y : ℕ) (x : Effect) (s : State) → is_idle x ≡ true → acted room r j e y x s ≡ s
+acted_idle : (room r : ℕ) (j : Call) (e y : ℕ) (x : Effect) (s : State) → is_idle x ≡ true → acted room r j e y x s ≡ s
 unfolding acted
 acted_idle room r j e y idle s h = refl
 acted_idle room r j e y (narrows v) s h = cc
 acted_idle room r j e y fails s h = cc
 
-pub acted_slip : (room r : ℕ) (j : Call) (e y : ℕ) (x : Effect) (s : State) → is_idle x ≡ false
+acted_slip : (room r : ℕ) (j : Call) (e y : ℕ) (x : Effect) (s : State) → is_idle x ≡ false
     → acted room r j e y x s ≡ recorded room s (explanation r j (windows s.table) e y x) (table_after (own_end (rule r)) y x s.table) (status_after x)
 unfolding acted
 acted_slip room r j e y idle s h = cc
@@ -178,9 +183,9 @@ room_no room log slip used m p q h = lt-leb (length log + length slip + 3) room 
 room_yes : (room : ℕ) (log slip : List ℤ) (used m : ℕ) → length log ≡ used → length slip ≡ 7 + 3 * m → used + (10 + 3 * m) ≤ room → fits room log slip ≡ true
 room_yes room log slip used m p q h = le-leb (length log + length slip + 3) room (omega arith)
 
-with_slip_is : {table table' log log' : List ℤ} {slips slips' last last' : ℕ} {s s' : model.Status} → table ≡ table' → log ≡ log' → slips ≡ slips' → last ≡ last' → s ≡ s'
+state_is : {table table' log log' : List ℤ} {slips slips' last last' : ℕ} {s s' : model.Status} → table ≡ table' → log ≡ log' → slips ≡ slips' → last ≡ last' → s ≡ s'
     → ◌≡◌ {A = State} (record { table = table; log = log; slips = slips; last = last; status = s }) (record { table = table'; log = log'; slips = slips'; last = last'; status = s' })
-with_slip_is p q o l t = rw (p, q, o, l, t)
+state_is p q o l t = rw (p, q, o, l, t)
 
 -- A slip that is written does not stop the call.
 written_after : (x : Effect) → written (status_after x) ≡ true
@@ -188,166 +193,177 @@ written_after idle = refl
 written_after (narrows v) = refl
 written_after fails = refl
 
-pub roomy_of : {n : ℕ} {b buffer : List ℤ} {p : Progress} → Held n b buffer p → Roomy buffer p
-roomy_of h = record { small = h.small; trailer_fits = h.trailer_fits; counted = h.counted; placed = h.placed }
-
-module _ {n : ℕ} {W : Windows} {c : Citing} {r e y : ℕ} (x : Done) {buffer : List ℤ} {p : Progress} (roomy : Roomy buffer p) (writes : Writes n W c r e y) where
+module _ {n : ℕ} {W : Windows} {c : Citing} {e y : ℕ} (r : Rule) (x : Done) (l : Log) (writes : Writes n W c e y) where
   abbrev slip : Explanation
   slip = slip_of n W c r e y x
 
   pub few_facts : length slip.premises ≤ 256
   few_facts = omega (arith, premise_list_length n (cites_of c W) (says_of c W), writes.ranged.few)
 
-  log_size : length (take p.used buffer) ≡ p.used
-  log_size = length-take-le p.used buffer (omega (arith, roomy.trailer_fits))
+  log_size : length (take l.used l.buffer.now) ≡ l.used
+  log_size = length-take-le l.used l.buffer.now (omega (arith, l.roomy.trailer_fits))
 
   module _ {m : ℕ} (count : m ≡ length slip.premises) where
     long : length (slip_words slip) ≡ 7 + 3 * m
     long = slip_words_length slip ∙ rw count
 
     -- It does not fit.
-    pub stop_entered : {o : Progress} → length buffer < p.used + (10 + 3 * m) → o ≡ stopped_at p → Entered slip (status_after (effect_of x)) buffer p buffer o
-    stop_entered h f =
-        let no = room_no (length buffer) (take p.used buffer) (slip_words slip) p.used m log_size long h in
-        rw f
-        (record {
-          is = λ t u. rw no;
-          roomy = record { small = roomy.small; trailer_fits = roomy.trailer_fits; counted = roomy.counted; placed = roomy.placed };
-          same = refl;
-          after = refl;
-          longer = omega arith;
-          more = omega arith;
-        })
+    pub stop_entered : {l' : Log} → room l < l.used + (10 + 3 * m)
+        → (l'.buffer.ghost_name ≡ l.buffer.ghost_name) × (l'.buffer.now ≡ l.buffer.now) × (l'.used ≡ l.used) × (l'.slips ≡ l.slips) × (l'.last ≡ l.last) × (l'.status ≡ Stopped)
+        → Entered slip (status_after (effect_of x)) l l'
+    stop_entered {l'} h g =
+        let no = room_no (room l) (take l.used l.buffer.now) (slip_words slip) l.used m log_size long h in
+        let status = ap status_of g.5 in
+        record {
+          is = λ t u. state_is (ap (λ s. cond (written s) u t) status) (ap (take l'.used) g.1 ∙ ap (λ i. take i l.buffer.now) g.2) g.3 g.4 status ∙ rw no;
+          grown = record {
+            lent = g.0;
+            same = ap length g.1;
+            after = rw g.1;
+            longer = omega (arith, g.2);
+            more = omega (arith, g.3);
+          };
+        }
 
     -- It fits and is written.
-    pub slip_entered : {buffer' : List ℤ} {end : ℕ} {q : Progress} → p.used + (10 + 3 * m) ≤ length buffer → Appended p.used (slip_words slip) buffer buffer' end
-        → (q.used ≡ end) × (q.slips ≡ p.slips + 1) × (q.last ≡ p.used) × (status_of q.status ≡ status_after (effect_of x)) → Entered slip (status_after (effect_of x)) buffer p buffer' q
-    slip_entered {buffer'} {end} {q} h a g =
-        let yes = room_yes (length buffer) (take p.used buffer) (slip_words slip) p.used m log_size long h in
-        let went = ap written g.3 ∙ written_after (effect_of x) in
+    pub slip_room : {end : ℕ} {buffer : List ℤ} → l.used + (10 + 3 * m) ≤ room l → Appended l.used (slip_words slip) l.buffer.now buffer end → (l.used + 7 ≤ end) × (end + 3 ≤ length buffer)
+    slip_room h a = (omega (arith, long, a.place), omega (arith, long, a.place, a.same))
+
+    pub slip_entered : {end : ℕ} {w : List ℤ} {l₁ l' : Log} → l.used + (10 + 3 * m) ≤ room l → Appended l.used (slip_words slip) l.buffer.now w end → Counted end (status_after (effect_of x)) l₁ l'
+        → (l₁.buffer.ghost_name ≡ l.buffer.ghost_name) × (l₁.used ≡ l.used) × (l₁.slips ≡ l.slips) → l₁.buffer.now ≡ w
+        → Entered slip (status_after (effect_of x)) l l'
+    slip_entered {end} {w} {l₁} {l'} h a k g s =
+        let yes = room_yes (room l) (take l.used l.buffer.now) (slip_words slip) l.used m log_size long h in
+        let went = ap written k.status ∙ written_after (effect_of x) in
         record {
-          is = λ t u. with_slip_is (ap (λ b. cond b u t) went) (ap (λ i. take i buffer') g.0 ∙ a.is) g.1 (g.2 ∙ sym log_size) g.3 ∙ rw yes;
-          roomy = record {
-            small = omega (arith, a.same, roomy.small);
-            trailer_fits = omega (arith, long, a.place, a.same, g.0);
-            counted = omega (arith, long, a.place, roomy.counted, g.0, g.1);
-            placed = omega (arith, long, a.place, g.0, g.2);
+          is = λ t u. state_is (ap (λ b. cond b u t) went) (ap (take l'.used) (k.words ∙ s) ∙ ap (λ i. take i w) k.used ∙ a.is) (k.slips ∙ ap (λ i. i + 1) g.2) (k.last ∙ g.1 ∙ sym log_size) k.status ∙ rw yes;
+          grown = record {
+            lent = k.lent ∙ g.0;
+            same = ap length (k.words ∙ s) ∙ a.same;
+            after = rw (k.used, k.words, s) a.rest;
+            longer = omega (arith, long, a.place, k.used);
+            more = omega (arith, k.slips, g.2);
           };
-          same = a.same;
-          after = rw g.0 a.rest;
-          longer = omega (arith, long, a.place, g.0);
-          more = omega (arith, g.1);
         }
 
 -- ---- the slip entered and the new end stored
 
-module _ {n : ℕ} {b buffer : List ℤ} {p : Progress} (i : Rule) {y : ℕ} {x : Effect} (held : Held n b buffer p) (there : y < n)
-    (narrower : (v : ℤ) → x ≡ narrows v → Narrower (board b) y (own_end i) v) (range : (v : ℤ) → x ≡ narrows v → Within v (span (own_end i)))
-    {slip : Explanation} {buffer' b' : List ℤ} {q : Progress} {t : Bool} (entered : Entered slip (status_after x) buffer p buffer' q) (told : t ≡ written (status_of q.status)) (put : b' ≡ cond t (stored (own_end i) y x b) b) where
-  table_put : (sent : List ℤ) → table_of n sent b' ≡ cond (written (status_of q.status)) (table_after (own_end i) y x (table_of n sent b)) (table_of n sent b)
-  table_put sent = ap (table_of n sent) put ∙ go t ∙ ap (λ s. cond s (table_after (own_end i) y x (table_of n sent b)) (table_of n sent b)) told
+module _ {n : ℕ} {b : List ℤ} {l : Log} (r : ℕ) {y : ℕ} {x : Effect} (held : Held n b) (there : y < n)
+    (narrower : (v : ℤ) → x ≡ narrows v → Narrower (board b) y (own_end (rule r)) v) (range : (v : ℤ) → x ≡ narrows v → Within v (span (own_end (rule r))))
+    {slip : Explanation} {b' : List ℤ} {l' : Log} {t : Bool} (entered : Entered slip (status_after x) l l') (told : t ≡ written (status_of l'.status)) (put : b' ≡ cond t (stored (own_end (rule r)) y x b) b) where
+  table_put : (sent : List ℤ) → table_of n sent b' ≡ cond (written (status_of l'.status)) (table_after (own_end (rule r)) y x (table_of n sent b)) (table_of n sent b)
+  table_put sent = ap (table_of n sent) put ∙ go t ∙ ap (λ s. cond s (table_after (own_end (rule r)) y x (table_of n sent b)) (table_of n sent b)) told
     where
-      go : (t : Bool) → table_of n sent (cond t (stored (own_end i) y x b) b) ≡ cond t (table_after (own_end i) y x (table_of n sent b)) (table_of n sent b)
-      go true = table_stored n sent b y (own_end i) x held.whole there held.ranged.few
+      go : (t : Bool) → table_of n sent (cond t (stored (own_end (rule r)) y x b) b) ≡ cond t (table_after (own_end (rule r)) y x (table_of n sent b)) (table_of n sent b)
+      go true = table_stored n sent b y (own_end (rule r)) x held.whole there held.ranged.few
       go false = refl
 
-  pub entered_is : (sent : List ℤ) → state_of n sent b' buffer' q ≡ recorded (length buffer) (state_of n sent b buffer p) slip (table_after (own_end i) y x (table_of n sent b)) (status_after x)
+  entered_is : (sent : List ℤ) → state_of n sent b' l' ≡ recorded (room l) (state_of n sent b l) slip (table_after (own_end (rule r)) y x (table_of n sent b)) (status_after x)
   entered_is sent =
-      ap (λ w. state_at w buffer' q) (table_put sent) ∙ entered.is (table_of n sent b) (table_after (own_end i) y x (table_of n sent b))
+      ap (λ w. state_at w l') (table_put sent) ∙ entered.is (table_of n sent b) (table_after (own_end (rule r)) y x (table_of n sent b))
 
   put_sign : (z : ℕ) → z < n → (l : End) → 2 ≤ word l → produces (board b' z l) ≡ produces (board b z h_max)
   put_sign z h l w = ap (λ s. produces (board s z l)) put ∙ go t
     where
-      go : (t : Bool) → produces (board (cond t (stored (own_end i) y x b) b) z l) ≡ produces (board b z h_max)
-      go true = stored_sign b (own_end i) y held.whole held.ranged.few there held.signed x narrower z h l w
-      go false = old_sign b (own_end i) y held.whole held.ranged.few there held.signed z h l w
+      go : (t : Bool) → produces (board (cond t (stored (own_end (rule r)) y x b) b) z l) ≡ produces (board b z h_max)
+      go true = stored_sign b (own_end (rule r)) y held.whole held.ranged.few there held.signed x narrower z h l w
+      go false = old_sign b (own_end (rule r)) y held.whole held.ranged.few there held.signed z h l w
 
-  pub entered_kinds : Kinds n (board b') (board b)
-  entered_kinds z l = put_sign z l h_max (omega arith)
+  put_ranged : (t : Bool) → b' ≡ cond t (stored (own_end (rule r)) y x b) b → Whole b' × Ranged n (board b')
+  put_ranged true e = (rw e (stored_whole (own_end (rule r)) y x b held.whole), rw e (stored_ranged b (own_end (rule r)) y x held.whole held.ranged there range))
+  put_ranged false e = (rw e held.whole, rw e held.ranged)
 
-  put_held : (t : Bool) → b' ≡ cond t (stored (own_end i) y x b) b → Whole b' × Ranged n (board b')
-  put_held true e = (rw e (stored_whole (own_end i) y x b held.whole), rw e (stored_ranged b (own_end i) y x held.whole held.ranged there range))
-  put_held false e = (rw e held.whole, rw e held.ranged)
-
-  pub entered_grown : Grown n buffer p b' buffer' q
-  entered_grown =
-      let w = put_held t put in
-      let r = entered.roomy in
+  pub entered_held : Held n b'
+  entered_held =
+      let w = put_ranged t put in
       record {
-        held = record {
-          whole = w.0;
-          ranged = w.1;
-          signed = λ z l. put_sign z l h_min (omega arith) ∙ sym (put_sign z l h_max (omega arith));
-          small = r.small;
-          trailer_fits = r.trailer_fits;
-          counted = r.counted;
-          placed = r.placed;
-        };
-        same = entered.same;
-        after = entered.after;
-        longer = entered.longer;
-        more = entered.more;
+        whole = w.0;
+        ranged = w.1;
+        signed = λ z l. put_sign z l h_min (omega arith) ∙ sym (put_sign z l h_max (omega arith));
       }
 
-module _ {k : Job} {ws b buffer : List ℤ} {p : Progress} {r e y : ℕ} {x : Done} {c : Citing} (held : Held k.events b buffer p) (tries : Tries k ws (board b) r e y)
-    (does : Does k ws (board b) r e y x) (busy : is_idle (effect_of x) ≡ false) (cites : Cites k ws (board b) r e y x c) where
-  -- The slip that the code writes can be written.
-  pub writes : Writes k.events (board b) c r e y
-  writes =
+  -- It is what the calls' rule does, where its slip is theirs.
+  pub act_leads : {P : Call → Type 0} {e : ℕ} → is_idle x ≡ false → ((j : Call) → P j → slip ≡ explanation r j (windows (table_of n j.window_table b)) e y x) → Leads n P (λ j. acted (room l) r j e y x) b l b' l'
+  act_leads {e = e} busy slip_is =
       record {
-        ranged = held.ranged;
-        known = cites.known;
-        first = tries.first;
-        last = omega (arith, tries.last);
-        subject = omega (arith, tries.subject, few_subjects tries.fit (rule r));
-        target = omega (arith, tries.target, held.ranged.few);
+        is = λ j q. entered_is j.window_table ∙ sym (acted_slip (room l) r j e y x (state_of n j.window_table b l) busy ∙ rw (← slip_is j q));
+        kinds = λ z m. put_sign z m h_max (omega arith);
+        grown = entered.grown;
       }
 
-  -- It is the definitions' slip.
-  module _ (j : Call) (s : Serves k ws (board b) j) where
-    slip_is : slip_of k.events (board b) c r e y x ≡ explanation r j (windows (table_of k.events j.window_table b)) e y (effect_of x)
-    slip_is =
-        let n = k.events in
-        let h = s.holds in
-        let there : e < subjects (rule r) j = subject_there h (rule r) tries.subject in
-        let same : Agree (events j) (board b) (windows (table_of n j.window_table b)) = rw h.events_are (agree_sym n (windows (table_of n j.window_table b)) (board b) (agree n j.window_table b)) in
-        rw (same_premises j s cites) (explanation_agree j (board b) (windows (table_of n j.window_table b)) same r e y (effect_of x) there)
+-- ---- the attempt on a board
 
-    act_is : acted (length buffer) r j e y (effect_of x) (state_of k.events j.window_table b buffer p)
-        ≡ recorded (length buffer) (state_of k.events j.window_table b buffer p) (slip_of k.events (board b) c r e y x) (table_after (own_end (rule r)) y (effect_of x) (table_of k.events j.window_table b)) (status_after (effect_of x))
-    act_is = acted_slip (length buffer) r j e y (effect_of x) (state_of k.events j.window_table b buffer p) busy ∙ rw (← slip_is)
-
-  pub act_made : {buffer' b' : List ℤ} {q : Progress} {t : Bool} → Entered (slip_of k.events (board b) c r e y x) (status_after (effect_of x)) buffer p buffer' q → t ≡ written (status_of q.status) → b' ≡ cond t (stored (own_end (rule r)) y (effect_of x) b) b
-      → Leads k ws (λ j. acted (length buffer) r j e y (effect_of x)) b buffer p b' buffer' q
-  act_made entered told put =
-      record {
-        is = λ j s. entered_is (rule r) held tries.target does.narrower does.range entered told put j.window_table ∙ sym (act_is j s);
-        kinds = entered_kinds (rule r) held tries.target does.narrower does.range entered told put;
-        grown = entered_grown (rule r) held tries.target does.narrower does.range entered told put;
-      }
-
--- ---- the attempt
-
-module _ {k : Job} {ws b buffer : List ℤ} {p : Progress} {r e y : ℕ} (held : Held k.events b buffer p) (tries : Tries k ws (board b) r e y) where
+module _ {n : ℕ} {P : Call → Type 0} (r e y : ℕ) {b : List ℤ} {l : Log} where
   -- The call has ended.
-  pub attempt_off : {t : Bool} → t ≡ still (status_of p.status) → not t ≡ true → Made k ws (λ j. try r e y ∷ []) b buffer p b buffer p
-  attempt_off {t} h f =
-      record { is = λ j q. sym (attempt_ends (length buffer) r j e y (state_of k.events j.window_table b buffer p) (sym h ∙ not-true t f)); kinds = λ y l. refl; grown = grown_none held }
+  pub attempt_off : {t : Bool} → t ≡ still (status_of l.status) → not t ≡ true → Leads n P (λ j. made (room l) j (try r e y ∷ [])) b l b l
+  attempt_off {t} h f = leads_none (λ j q. attempt_ends (room l) r j e y (state_of n j.window_table b l) (sym h ∙ not-true t f))
 
-  module _ {t : Bool} {x : Done} (h : t ≡ still (status_of p.status)) (f : not t ≡ false) (does : Does k ws (board b) r e y x) where
-    attempt_on : (j : Call) → Serves k ws (board b) j → made (length buffer) j (try r e y ∷ []) (state_of k.events j.window_table b buffer p) ≡ acted (length buffer) r j e y (effect_of x) (state_of k.events j.window_table b buffer p)
-    attempt_on j q =
-        let n = k.events in
-        let on = sym h ∙ not-false t f in
-        let h = q.holds in
-        let there : e < subjects (rule r) j = subject_there h (rule r) tries.subject in
-        let same = outcome_agree j (windows (table_of n j.window_table b)) (board b) (rw h.events_are (agree n j.window_table b)) (lags_of h tries.fit) (rule r) e y there (rw h.events_are tries.target) ∙ sym (does.is j q) in
-        attempt_does (length buffer) r j e y (state_of n j.window_table b buffer p) on same
-
+  module _ {t : Bool} {x : Effect} (h : t ≡ still (status_of l.status)) (f : not t ≡ false)
+      (does : (j : Call) → P j → effect (own_end (rule r)) (windows (table_of n j.window_table b)) y (finding (rule r) j (windows (table_of n j.window_table b)) e y) ≡ x) where
     -- It does nothing.
-    pub attempt_idle : {i : Bool} → i ≡ is_idle (effect_of x) → i ≡ true → Made k ws (λ j. try r e y ∷ []) b buffer p b buffer p
-    attempt_idle u w = record { is = λ j q. sym (attempt_on j q ∙ acted_idle (length buffer) r j e y (effect_of x) (state_of k.events j.window_table b buffer p) (sym u ∙ w)); kinds = λ y l. refl; grown = grown_none held }
+    pub attempt_idle : {i : Bool} → i ≡ is_idle x → i ≡ true → Leads n P (λ j. made (room l) j (try r e y ∷ [])) b l b l
+    attempt_idle u w =
+        leads_none (λ j q. attempt_does (room l) r j e y (state_of n j.window_table b l) (sym h ∙ not-false t f) (does j q) ∙ acted_idle (room l) r j e y x (state_of n j.window_table b l) (sym u ∙ w))
 
     -- It is acted on.
-    pub attempt_acts : {b' buffer' : List ℤ} {o : Progress} → Leads k ws (λ j. acted (length buffer) r j e y (effect_of x)) b buffer p b' buffer' o → Made k ws (λ j. try r e y ∷ []) b buffer p b' buffer' o
-    attempt_acts m = record { is = λ j q. m.is j q ∙ sym (attempt_on j q); kinds = m.kinds; grown = m.grown }
+    pub attempt_acts : {b' : List ℤ} {l' : Log} → Leads n P (λ j. acted (room l) r j e y x) b l b' l' → Leads n P (λ j. made (room l) j (try r e y ∷ [])) b l b' l'
+    attempt_acts m =
+        record {
+          is = λ j q. m.is j q ∙ sym (attempt_does (room l) r j e y (state_of n j.window_table b l) (sym h ∙ not-false t f) (does j q));
+          kinds = m.kinds;
+          grown = m.grown;
+        }
+
+-- ---- in the job at hand
+
+module _ (k : CageJob) (q : Rule) {e y : ℕ} {x : Done} (tries : Tried k q e y) (does : Found k q e y x) where
+  -- A call's rule does on its windows what it does on the board.
+  does_there : (j : Call) → Of k j → effect (own_end (rule (number_of q))) (windows (table_of k.job.events j.window_table k.board.now.words)) y (finding (rule (number_of q)) j (windows (table_of k.job.events j.window_table k.board.now.words)) e y) ≡ effect_of x
+  does_there j o =
+      let n = k.job.events in
+      let b = k.board.now.words in
+      let h = o.holds in
+      rw (rule_number q)
+      (outcome_agree j (windows (table_of n j.window_table b)) (board b) (rw h.events_are (agree n j.window_table b)) (lags_of h tries.fit) q e y (subject_there h q tries.subject) (rw h.events_are tries.target)
+      ∙ sym (does.is j o))
+
+  module _ {c : Citing} (cites : Cites k.job k.lags.now (board k.board.now.words) q e y x c) where
+    -- The slip that the code writes can be written.
+    pub writes : Writes k.job.events (board k.board.now.words) c e y
+    writes =
+        record {
+          ranged = k.held.ranged;
+          known = cites.known;
+          subject = omega (arith, tries.subject, few_subjects tries.fit q);
+          target = omega (arith, tries.target, k.held.ranged.few);
+        }
+
+    -- It is the definitions' slip.
+    slip_is : (j : Call) → Of k j → slip_of k.job.events (board k.board.now.words) c q e y x ≡ explanation (number_of q) j (windows (table_of k.job.events j.window_table k.board.now.words)) e y (effect_of x)
+    slip_is j s =
+        let n = k.job.events in
+        let b = k.board.now.words in
+        let h = s.holds in
+        let same : Agree (events j) (board b) (windows (table_of n j.window_table b)) = rw h.events_are (agree_sym n (windows (table_of n j.window_table b)) (board b) (agree n j.window_table b)) in
+        let here : slip_of n (board b) c q e y x ≡ explanation (number_of q) j (board b) e y (effect_of x) = rw (rule_number q, same_premises j s cites) in
+        here ∙ explanation_agree j (board b) (windows (table_of n j.window_table b)) same (number_of q) e y (effect_of x) (rw (rule_number q) (subject_there h q tries.subject))
+
+    module _ {l l' : Log} {b' : List ℤ} {t : Bool} (entered : Entered (slip_of k.job.events (board k.board.now.words) c q e y x) (status_after (effect_of x)) l l') (told : t ≡ written (status_of l'.status)) (put : b' ≡ cond t (stored (own_end q) y (effect_of x) k.board.now.words) k.board.now.words) where
+      pub act_held : Held k.job.events b'
+      act_held = entered_held (number_of q) k.held tries.target (rw (rule_number q) does.narrower) (rw (rule_number q) does.range) entered told (rw (rule_number q) put)
+
+      pub act_made : {k' : CageJob} → is_idle (effect_of x) ≡ false → k'.board.now.words ≡ b' → fixed k' ≡ fixed k → Moves (λ j. acted (room l) (number_of q) j e y (effect_of x)) k l k' l'
+      act_made busy same s =
+          record {
+            leads = rw same (act_leads (number_of q) k.held tries.target (rw (rule_number q) does.narrower) (rw (rule_number q) does.range) entered told (rw (rule_number q) put) busy slip_is);
+            stays = s;
+          }
+
+  module _ (l : Log) {t : Bool} (h : t ≡ still (status_of l.status)) (f : not t ≡ false) where
+    pub made_idle : {k' : CageJob} {i : Bool} → fixed k' ≡ fixed k → k'.board.now.words ≡ k.board.now.words → i ≡ is_idle (effect_of x) → i ≡ true → Made (λ j. try (number_of q) e y ∷ []) k l k' l
+    made_idle s same u w = made_rest (λ j. try (number_of q) e y ∷ []) s same (attempt_idle (number_of q) e y h f does_there u w)
+
+    pub made_acts : {k₁ k' : CageJob} {l' : Log} → fixed k₁ ≡ fixed k → k₁.board.now.words ≡ k.board.now.words → Moves (λ j. acted (room l) (number_of q) j e y (effect_of x)) k₁ l k' l' → Made (λ j. try (number_of q) e y ∷ []) k l k' l'
+    made_acts s same m =
+        let m' = moves_from {k = k} s same m in
+        record { leads = attempt_acts (number_of q) e y h f does_there m'.leads; stays = m'.stays }

@@ -1,12 +1,15 @@
 -- What an effect does to the board, the window table and the call; a slip entered in the list.
-use Rattle.std.specs.Prelude.{◌≡◌, Bool, true, false, cond, List, ℕ, ◌+◌, ◌*◌, ◌≤◌, ℤ, length, drop, set}
+use Rattle.std.specs.Prelude.{◌≡◌, Bool, true, false, cond, List, ℕ, ◌+◌, ◌*◌, ℤ, set}
 use Rattle.model.specs.Job.{End, word, slot}
-use Rattle.model.specs.Rules.{Effect, idle, narrows, fails}
+use Rattle.model.specs.Rules.{Rule, Effect, idle, narrows, fails}
 use Rattle.model.specs.Slips.{Explanation}
 use Rattle.model.specs.Rounds.{Status, running, ended, settled, conflict, stopped, still_open, recorded}
-use Rattle.rounds.specs.State.{status_of, state_at}
-use Rattle.rounds.specs.declared.Progress.{Progress}
-use Rattle.rounds.specs.declared.Status.TheVariants.{Stopped}
+use Rattle.tables.specs.Board.{board}
+use Rattle.rules.specs.Values.{Tries, Does}
+use Rattle.rules.specs.declared.Effect.{Effect as Done}
+use Rattle.rounds.specs.State.{status_of, room, state_at, Grown}
+use Rattle.rounds.specs.declared.Log.{Log}
+use Rattle.rounds.specs.declared.CageJob.{CageJob}
 
 -- The board, and the window table, with a new end k of event y.
 abbrev pub stored : End → ℕ → Effect → List ℤ → List ℤ
@@ -25,10 +28,6 @@ status_after idle = running
 status_after (narrows v) = running
 status_after fails = ended conflict
 
--- The call ended for want of room.
-abbrev pub stopped_at : Progress → Progress
-stopped_at p = record { used = p.used; slips = p.slips; last = p.last; status = Stopped }
-
 -- ---- a slip entered
 
 -- Was it written? The call stops where it does not fit.
@@ -39,18 +38,25 @@ written (ended conflict) = true
 written (ended stopped) = false
 written (ended still_open) = true
 
--- What holds of the buffer and the counts between any two attempts: a trailer fits after the list.
-pub record Roomy (buffer : List ℤ) (p : Progress) : Type 0 where
-  pub small : length buffer ≤ 1000000
-  pub trailer_fits : p.used + 3 ≤ length buffer
-  pub counted : 7 * p.slips ≤ p.used
-  pub placed : p.last ≤ p.used
+-- The list with one slip more, which ends at a place.
+pub record Counted (end : ℕ) (next : Status) (l l' : Log) : Type 0 where
+  pub lent : l'.buffer.ghost_name ≡ l.buffer.ghost_name
+  pub words : l'.buffer.now ≡ l.buffer.now
+  pub used : l'.used ≡ end
+  pub slips : l'.slips ≡ l.slips + 1
+  pub last : l'.last ≡ l.used
+  pub status : status_of l'.status ≡ next
 
 -- A slip was held against the room, and written or the call stopped: with the window table u in place of t where it was written, the state is the one that the definitions record.
-pub record Entered (x : Explanation) (next : Status) (buffer : List ℤ) (p : Progress) (buffer' : List ℤ) (p' : Progress) : Type 0 where
-  pub is : (t u : List ℤ) → state_at (cond (written (status_of p'.status)) u t) buffer' p' ≡ recorded (length buffer) (state_at t buffer p) x u next
-  pub roomy : Roomy buffer' p'
-  pub same : length buffer' ≡ length buffer
-  pub after : drop p'.used buffer' ≡ drop p'.used buffer
-  pub longer : p.used ≤ p'.used
-  pub more : p.slips ≤ p'.slips
+pub record Entered (x : Explanation) (next : Status) (l l' : Log) : Type 0 where
+  pub is : (t u : List ℤ) → state_at (cond (written (status_of l'.status)) u t) l' ≡ recorded (room l) (state_at t l) x u next
+  pub grown : Grown l l'
+
+-- ---- an attempt
+
+-- A rule is tried in the job at hand, for a subject and a target; x is what it does to the target's window.
+abbrev pub Tried : CageJob → Rule → ℕ → ℕ → Type 0
+Tried k q e y = Tries k.job k.lags.now (board k.board.now.words) q e y
+
+abbrev pub Found : CageJob → Rule → ℕ → ℕ → Done → Type 0
+Found k q e y x = Does k.job k.lags.now (board k.board.now.words) q e y x

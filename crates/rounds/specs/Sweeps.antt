@@ -1,30 +1,24 @@
--- The rules of a sweep at an event, and what is known of its level between their attempts.
-use Rattle.std.specs.Prelude.{◌≡◌, Bool, List, [], ◌∷◌, ℕ, ◌+◌, ◌≤◌, ◌<◌, ℤ}
+-- The attempts of a round in one cage, and what is known of a level between them.
+use Rattle.std.specs.Prelude.{◌≡◌, Bool, true, false, List, [], ◌∷◌, ℕ, ◌+◌, ℤ}
 use Rattle.model.specs.Job.{events, lags, Job as Call}
-use Rattle.model.specs.Rules.{Family, level, time, height, reservoir, rule}
 use Rattle.model.specs.Agenda.{Attempt, try, each_of, lag_attempts, event_attempts}
 use Rattle.tables.specs.Board.{board}
 use Rattle.tables.specs.Job.{reservoir_of}
-use Rattle.tables.specs.declared.Job.{Job}
 use Rattle.levels.specs.Values.{as_view, seen_by, Views}
 use Rattle.levels.specs.declared.View.{View}
 use Rattle.silence.specs.Slack.{slack_of}
+use Rattle.rounds.specs.declared.CageJob.{CageJob}
 
--- Rule r is the one of a family in the view v, which is the job's at one of its events.
-pub record Sees (k : Job) (r : ℕ) (f : Family) (v : View) : Type 0 where
-  pub first : 3 ≤ r
-  pub last : r ≤ 14
-  pub rule_is : rule r ≡ reservoir v.mirror v.strict f
-  pub views : Views k.events (reservoir_of k.reservoir) v.mirror v.strict v.subject v
-  pub subject : v.subject < k.events
+-- The first of the three rules in a row of a side, before (strict) or by.
+abbrev pub first_of : Bool → Bool → ℕ
+first_of false true = 3
+first_of true true = 6
+first_of false false = 9
+first_of true false = 12
 
--- Rules r, r + 1 and r + 2 are the level's, the time's and the amounts' of a side, before or by.
-pub record Three (r : ℕ) (m b : Bool) : Type 0 where
-  pub first : 3 ≤ r
-  pub last : r ≤ 12
-  pub level_is : rule r ≡ reservoir m b level
-  pub time_is : rule (r + 1) ≡ reservoir m b time
-  pub height_is : rule (r + 2) ≡ reservoir m b height
+-- v is the view of a side at e, before or by.
+abbrev pub Seen : CageJob → Bool → Bool → ℕ → View → Type 0
+Seen k m strict e v = Views k.job.events (reservoir_of k.job.reservoir) m strict e v
 
 -- The level of the view on a board leaves s over its limit.
 abbrev pub Leaves : View → List ℤ → ℤ → Type 0

@@ -1,0 +1,33 @@
+use mathlib.Core.Path.{refl}
+use mathlib.Core.List.{List}
+use Prim.Native.Nat.{ℕ}
+use Rattle.model.specs.Job.{Job as Call}
+use Rattle.model.specs.Agenda.{Attempt, event_attempts}
+use Rattle.rounds.proofs.Moves.{job_is, moves_from, moves_to, made_none, made_on}
+use Rattle.rounds.proofs.Passing.{there_next, event_passed, events_passed}
+use Rattle.rounds.proofs.CageJob.all_events.Goals as goal
+use Rattle.rounds.proofs.CageJob.all_events.Goals.{then-not-is_calm, else-not-is_calm}
+
+abbrev event_of : ℕ → Call → List Attempt
+event_of e j = event_attempts j e
+
+pub returns-then-are_calm : goal.returns-then-are_calm
+returns-then-are_calm c = events_passed c.args.self.now c.args.log.now refl refl c.spread-d.ensures.0 c.are_calm.ensures c.if-are_calm.true
+
+pub loop-e-init : goal.loop-e-init
+loop-e-init c = (made_none event_of _ _, c.spread-d.ensures.0, c.spread-d.ensures.1)
+
+pub loop-e-preserved : goal.loop-e-preserved
+loop-e-preserved c =
+    let k = c.loop-e.self in
+    let m = c.loop-e.invariant.0 in
+    let e = c.loop-e.e in
+    let real = there_next m c.loop-e-test.true in
+    let same = job_is m.stays in
+    elim c.if-not-is_calm.branch [
+      | then-not-is_calm w ↦
+          let d = w.spread-d-then-not-is_calm.ensures in
+          rw (w.self-is, w.log-is, w.d-is) (made_on event_of e m (moves_to refl refl (moves_from {k = k} refl refl w.event_rules.ensures)), d.0, d.1)
+      | else-not-is_calm w ↦
+          rw (w.self-is, w.log-is, w.d-is) (made_on event_of e m (event_passed k c.loop-e.log refl refl {d = c.loop-e.d.0} (rw same c.loop-e.invariant.1) real (rw same c.is_calm.ensures) w.if-not-is_calm.false), c.loop-e.invariant.1, c.loop-e.invariant.2)
+    ]

@@ -1,0 +1,23 @@
+-- `rounds::CageJob::attempt` makes one attempt: none once the call has ended, nothing where the effect is idle, else what the effect asks. Assumes nothing.
+use mathlib.Core.Bool.{not}
+use mathlib.Core.Path.{refl, ap}
+use mathlib.Core.List.{[], ◌∷◌}
+use Rattle.model.specs.Agenda.{try}
+use Rattle.rules.specs.Values.{rule_of}
+use Rattle.rules.specs.Numbers.{number_of}
+use Rattle.rounds.proofs.Moves.{made_rest}
+use Rattle.rounds.proofs.Trying.{attempt_off, made_idle, made_acts}
+use Rattle.rounds.proofs.CageJob.attempt.Goals as goal
+
+pub returns-then-not-is_running : goal.returns-then-not-is_running
+returns-then-not-is_running c =
+    let a = c.args in
+    made_rest (λ j. try (number_of (rule_of a.r)) a.e a.y ∷ []) refl refl (attempt_off (number_of (rule_of a.r)) a.e a.y c.is_running.ensures (ap not c.if-not-is_running.true))
+
+pub returns-then-is_idle : goal.returns-then-is_idle
+returns-then-is_idle c =
+    made_idle c.args.self.now (rule_of c.args.r) c.requires c.effect-x.ensures c.args.log.now c.is_running.ensures (ap not c.if-not-is_running.false) refl refl c.is_idle.ensures c.if-is_idle.true
+
+pub returns : goal.returns
+returns c =
+    made_acts c.args.self.now (rule_of c.args.r) c.requires c.effect-x.ensures c.args.log.now c.is_running.ensures (ap not c.if-not-is_running.false) refl refl c.act.ensures
