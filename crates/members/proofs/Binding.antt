@@ -1,30 +1,28 @@
 -- Rules 17 and 18 on the board: their effects are those on the window table, and a slip entered with the new end stored is what the definitions record.
 -- Assumes nothing.
 use mathlib.Core.Path.{◌≡◌, refl, sym, ap, subst, ◌∙◌}
-use mathlib.Core.Bool.{Bool, true, false, not, cond, ◌&&◌}
+use mathlib.Core.Bool.{Bool, true, false, cond, ◌&&◌}
 use mathlib.Core.List.{List, [], ◌∷◌, ◌++◌}
 use Prim.Native.Nat.{ℕ, ◌+◌, ◌≤◌, ◌<◌}
 use native.Mathlib.Omega.{arith}
-use borrow.Author.Tests.{not-true, not-false}
 use lib.Dec.{eqb, eqb_refl}
 use lib.IntN.{ℤ, pos, nat_abs, ◌-ℤ◌}
-use lib.ListN.{length}
 use lib.Signed.{le_z, ◌≤ℤ◌}
+use Rattle.std.specs.Borrow.{GName}
 use Rattle.integers.specs.Range.{Within}
 use Rattle.integers.proofs.Linear.{ints}
 use Rattle.integers.proofs.Sums.{sum_ext}
 use Rattle.integers.proofs.Tests.{is_true, true_is, and_out, and_in}
 use Rattle.model.specs.Job.{End, t_min, t_max, h_min, h_max, Windows, windows, events, member_count, member_word, member, set_size, in_set, Job as Call}
-use Rattle.model.specs.Standing.{span, Ranged}
+use Rattle.model.specs.Standing.{span}
 use Rattle.model.specs.View.{look}
 use Rattle.model.specs.Rules.{bound, total, rule, total_limit, others, side_finding, subjects, finding, own_end, idle, effect}
 use Rattle.model.specs.Facts.{quotes, quoted}
 use Rattle.model.specs.Slips.{premise_list, explanation}
 use Rattle.model.specs.Agenda.{Attempt, try, each_of}
-use Rattle.model.specs.Rounds.{acted, made}
+use Rattle.model.specs.Rounds.{State, acted, made}
 use Rattle.model.proofs.Agree.{Agree, agree_sym, look_agree, effect_agree, explanation_agree}
 use Rattle.model.proofs.Premises.{any_in}
-use Rattle.model.proofs.Sweeps.{made_append, made_more}
 use Rattle.model.proofs.Silence.{Idle, made_still}
 use Rattle.tables.specs.Board.{board, table_of}
 use Rattle.sets.specs.Sets.{count_at}
@@ -33,58 +31,65 @@ use Rattle.totals.proofs.Summing.{adds_at}
 use Rattle.totals.proofs.Slackening.{spared}
 use Rattle.silence.specs.Slack.{spares}
 use Rattle.rules.specs.Values.{effect_of, is_idle}
+use Rattle.rules.specs.Numbers.{number_of}
 use Rattle.rules.specs.declared.Effect.{Effect as Done}
 use Rattle.rules.proofs.Doing.{new_narrower, new_range}
 use Rattle.facts.specs.Quotes.{cites_of, says_of, Shows, TotalCites}
 use Rattle.facts.specs.declared.Citing.{Citing}
 use Rattle.slips.specs.Slip.{slip_of, Writes}
 use Rattle.slips.proofs.Filling.{set_premises}
-use Rattle.rounds.specs.State.{status_of, still, state_of, Held}
+use Rattle.rounds.specs.Held.{Held}
+use Rattle.rounds.specs.State.{status_of, room, state_of, Leads}
 use Rattle.rounds.specs.Attempts.{stored, status_after, written, Entered}
-use Rattle.rounds.specs.declared.Progress.{Progress}
-use Rattle.rounds.proofs.Moves.{agree, grown_none, grown_more}
-use Rattle.rounds.proofs.Trying.{attempt_ends, attempt_does, acted_idle, acted_slip, entered_is, entered_kinds, entered_grown}
-use Rattle.members.specs.declared.SetPlace.{SetPlace}
-use Rattle.members.specs.Members.{Binds, Moved, Swept, number, both_attempts, Placed, is_member, amount, Alone, Does, Spares}
+use Rattle.rounds.specs.declared.Log.{Log}
+use Rattle.rounds.proofs.Moves.{agree, leads_none, leads_nothing, leads_as, leads_both, leads_on}
+use Rattle.rounds.proofs.Trying.{entered_held, act_leads}
+use Rattle.members.specs.declared.SetJob.{SetJob}
+use Rattle.members.specs.Placed.{is_member}
+use Rattle.members.specs.Members.{Of, fixed, Moved, Swept, number, both_attempts, amount, Alone, Does, Spares}
 
 rule_is : (m : Bool) → rule (number m) ≡ total m
 rule_is true = refl
 rule_is false = refl
 
-pub number_range : (m : Bool) → (1 ≤ number m) × (number m ≤ 18)
-number_range true = (omega arith, omega arith)
-number_range false = (omega arith, omega arith)
+number_is : (m : Bool) → number_of (total m) ≡ number m
+number_is true = refl
+number_is false = refl
 
 -- ---- a call's set
 
-module _ {n : ℕ} {ws : List ℤ} {v : SetPlace} (p : Placed n ws v) where
-  pub set_adds : {W : Windows} → Ranged n W → Adds ws v.at W × (v.count ≡ count_at ws v.at)
-  set_adds {W} r = (subst (λ at. Adds ws at W) (sym p.begins) (adds_at p.sane r), p.size)
+module _ (k : SetJob) where
+  pub set_adds : Adds k.sets.now k.at (board k.board.now.words) × (k.count ≡ count_at k.sets.now k.at)
+  set_adds =
+      let p = k.placed in
+      (subst (λ at. Adds k.sets.now at (board k.board.now.words)) (sym p.begins) (adds_at p.sane k.held.ranged), p.size)
 
   -- What is listed is an event of the job and a member.
-  pub listed_member : (i : ℕ) {y : ℕ} → i < v.count → y ≡ event_at ws v.at i → (y < n) × (is_member ws v.set y ≡ true)
+  pub listed_member : (i : ℕ) {y : ℕ} → i < k.count → y ≡ event_at k.sets.now k.at i → (y < k.events) × (is_member k.sets.now k.set y ≡ true)
   listed_member i {y} l e =
-      let g = v.set in
+      let p = k.placed in
+      let ws = k.sets.now in
+      let g = k.set in
       let there : i < member_count ws g = rw (← p.begins) (omega (arith, p.size)) in
       let y-is : y ≡ nat_abs (member_word ws g i) = rw (← p.begins) e in
       (rw y-is (p.sane.member_real i there), rw y-is (is_true (is_member ws g (nat_abs (member_word ws g i))) (any_in (member_count ws g) i (λ k. eqb (nat_abs (member_word ws g k)) (nat_abs (member_word ws g i))) there (eqb_refl (nat_abs (member_word ws g i))))))
 
-  module _ {j : Call} (h : Binds n ws j) where
-    pub member_is : (i : ℕ) {y : ℕ} → y ≡ event_at ws v.at i → y ≡ member j v.set i
-    member_is i e = rw (h.sets_are, ← p.begins) e
+  module _ {j : Call} (h : Of k j) where
+    pub member_is : (i : ℕ) {y : ℕ} → y ≡ event_at k.sets.now k.at i → y ≡ member j k.set i
+    member_is i e = rw (h.sets_are, ← k.placed.begins) e
 
-    pub size_is : v.count ≡ set_size j v.set
-    size_is = rw (h.sets_are, ← p.begins) p.size
+    pub size_is : k.count ≡ set_size j k.set
+    size_is = rw (h.sets_are, ← k.placed.begins) k.placed.size
 
-    set_of : SetOf ws v.at j v.set
-    set_of = record { sets_are = h.sets_are; begins = p.begins; sane = rw h.events_are p.sane }
+    set_of : SetOf k.sets.now k.at j k.set
+    set_of = record { sets_are = h.sets_are; begins = k.placed.begins; sane = rw h.events_are k.placed.sane }
 
-    in_set_is : (y : ℕ) → in_set j v.set y ≡ is_member ws v.set y
+    in_set_is : (y : ℕ) → in_set j k.set y ≡ is_member k.sets.now k.set y
     in_set_is y = rw h.sets_are
 
-    set_there : (m : Bool) → v.set < subjects (rule (number m)) j
-    set_there true = rw h.sets_are p.there
-    set_there false = rw h.sets_are p.there
+    set_there : (m : Bool) → k.set < subjects (rule (number m)) j
+    set_there true = rw h.sets_are k.placed.there
+    set_there false = rw h.sets_are k.placed.there
 
 -- ---- what a slack says
 
@@ -94,30 +99,33 @@ spares_more r s low high l e =
     let p = and_out (le_z (pos 0) r) (le_z (high -ℤ low) r) (true_is e) in
     is_true (le_z (pos 0) s && le_z (high -ℤ low) s) (and_in (le_z (pos 0) s) (le_z (high -ℤ low) s) (omega ints) (omega ints))
 
-module _ {n : ℕ} {ws : List ℤ} {v : SetPlace} (p : Placed n ws v) (W : Windows) where
+module _ (k : SetJob) where
+  abbrev W : Windows
+  W = board k.board.now.words
+
   abbrev Tells : Bool → ℤ → Type 0
-  Tells m s = (j : Call) (g : ℕ) → SetOf ws v.at j g → Slack j g m W s
+  Tells m s = (j : Call) (g : ℕ) → SetOf k.sets.now k.at j g → Slack j g m W s
 
-  gives : {j : Call} → Binds n ws j → (m : Bool) {s : ℤ} → Tells m s → (y : ℕ) → y < n → is_member ws v.set y ≡ true → effect (own_end (total m)) W y (finding (total m) j W v.set y) ≡ does_by m W y s
+  gives : {j : Call} → Of k j → (m : Bool) {s : ℤ} → Tells m s → (y : ℕ) → y < k.events → is_member k.sets.now k.set y ≡ true → effect (own_end (total m)) W y (finding (total m) j W k.set y) ≡ does_by m W y s
   gives {j} h m {s} t y l i =
-      ap (effect (own_end (total m)) W y) ((t j v.set (set_of p h)).gives y (rw h.events_are l) (true_is (in_set_is p h y ∙ i)))
+      ap (effect (own_end (total m)) W y) ((t j k.set (set_of k h)).gives y (rw h.events_are l) (true_is (in_set_is k h y ∙ i)))
 
-  pub spares_least : {s t r : ℤ} → Tells false s → Tells true t → (r ≤ℤ s) × (r ≤ℤ t) → Spares n ws v.set W r
-  spares_least {s} {t} {r} f g l = record { still = λ j h m y k i e. go j h m y k i e }
+  pub spares_least : {s t r : ℤ} → Tells false s → Tells true t → (r ≤ℤ s) × (r ≤ℤ t) → Spares k r
+  spares_least {s} {t} {r} f g l = record { still = λ j h m y p i e. go j h m y p i e }
     where
-      go : (j : Call) → Binds n ws j → (m : Bool) (y : ℕ) → y < n → is_member ws v.set y ≡ true → spares r (W y h_min) (W y h_max) ≡ true → effect (own_end (total m)) W y (finding (total m) j W v.set y) ≡ idle
-      go j h false y k i e = gives h false f y k i ∙ spared false W y s (spares_more r s (W y h_min) (W y h_max) l.0 e)
-      go j h true y k i e = gives h true g y k i ∙ spared true W y t (spares_more r t (W y h_min) (W y h_max) l.1 e)
+      go : (j : Call) → Of k j → (m : Bool) (y : ℕ) → y < k.events → is_member k.sets.now k.set y ≡ true → spares r (W y h_min) (W y h_max) ≡ true → effect (own_end (total m)) W y (finding (total m) j W k.set y) ≡ idle
+      go j h false y p i e = gives h false f y p i ∙ spared false W y s (spares_more r s (W y h_min) (W y h_max) l.0 e)
+      go j h true y p i e = gives h true g y p i ∙ spared true W y t (spares_more r t (W y h_min) (W y h_max) l.1 e)
 
-pub does_of : {n : ℕ} {ws : List ℤ} {v : SetPlace} {b : List ℤ} {m : Bool} {y : ℕ} {s : ℤ} (x : Done) → Placed n ws v → Ranged n (board b) → y < n → is_member ws v.set y ≡ true → ((j : Call) (g : ℕ) → SetOf ws v.at j g → Slack j g m (board b) s) → effect_of x ≡ does_by m (board b) y s → Does n ws v b m y x
-does_of {n} {ws} {v} {b} {m} {y} {s} x p r l i t e =
-    record {
-      target = l;
-      member = i;
-      is = λ j h. rw (rule_is m) (gives p (board b) h m t y l i ∙ sym e);
-      narrower = λ w q. rw (rule_is m) (new_narrower (board b) (own_end (total m)) y (bound (bound_by m (board b) y s)) w (sym e ∙ q));
-      range = λ w q. rw (rule_is m) (new_range (own_end (total m)) y (bound (bound_by m (board b) y s)) w r l (sym e ∙ q));
-    }
+  pub does_of : {m : Bool} {y : ℕ} {s : ℤ} (x : Done) → y < k.events → is_member k.sets.now k.set y ≡ true → Tells m s → effect_of x ≡ does_by m W y s → Does k m y x
+  does_of {m} {y} {s} x l i t e =
+      record {
+        target = l;
+        member = i;
+        is = λ j h. rw (rule_is m) (gives h m t y l i ∙ sym e);
+        narrower = λ w q. rw (rule_is m) (new_narrower W (own_end (total m)) y (bound (bound_by m W y s)) w (sym e ∙ q));
+        range = λ w q. rw (rule_is m) (new_range (own_end (total m)) y (bound (bound_by m W y s)) w k.held.ranged l (sym e ∙ q));
+      }
 
 -- ---- the board and the table
 
@@ -133,35 +141,17 @@ module _ (j : Call) (W X : Windows) (a : Agree (events j) W X) where
   outcome_agree m g y l =
       rw (rule_is m) (effect_agree j W X a (own_end (total m)) y l (finding (total m) j W g y) ∙ ap (effect (own_end (total m)) X y) (total_agree m g y))
 
-table_agree : {n : ℕ} {ws : List ℤ} {j : Call} → Binds n ws j → (b : List ℤ) → Agree (events j) (windows (table_of n j.window_table b)) (board b)
-table_agree {n} {ws} {j} h b = rw h.events_are (agree n j.window_table b)
+module _ (k : SetJob) {j : Call} (h : Of k j) where
+  -- The windows in a call's table.
+  abbrev U : Windows
+  U = windows (table_of k.events j.window_table k.board.now.words)
 
--- ---- one attempt
+  table_agree : Agree (events j) U (board k.board.now.words)
+  table_agree = rw h.events_are (agree k.events j.window_table k.board.now.words)
 
-module _ {n : ℕ} {ws b buffer : List ℤ} {p : Progress} {v : SetPlace} (m : Bool) (y : ℕ) (held : Held n b buffer p) (placed : Placed n ws v) where
-  -- The call has ended.
-  pub attempt_off : {t : Bool} → t ≡ still (status_of p.status) → not t ≡ true → Swept n ws (λ j. try (number m) v.set y ∷ []) b buffer p b buffer p
-  attempt_off {t} h f =
-      record { is = λ j q. sym (attempt_ends (length buffer) (number m) j v.set y (state_of n j.window_table b buffer p) (sym h ∙ not-true t f)); kinds = λ y l. refl; grown = grown_none held }
-
-  module _ {t : Bool} {x : Done} (h : t ≡ still (status_of p.status)) (f : not t ≡ false) (does : Does n ws v b m y x) where
-    attempt_on : (j : Call) → Binds n ws j → made (length buffer) j (try (number m) v.set y ∷ []) (state_of n j.window_table b buffer p) ≡ acted (length buffer) (number m) j v.set y (effect_of x) (state_of n j.window_table b buffer p)
-    attempt_on j q =
-        attempt_does (length buffer) (number m) j v.set y (state_of n j.window_table b buffer p) (sym h ∙ not-false t f)
-        (outcome_agree j (windows (table_of n j.window_table b)) (board b) (table_agree q b) m v.set y (rw q.events_are does.target) ∙ does.is j q)
-
-    -- It does nothing.
-    pub attempt_idle : {i : Bool} → i ≡ is_idle (effect_of x) → i ≡ true → Swept n ws (λ j. try (number m) v.set y ∷ []) b buffer p b buffer p
-    attempt_idle u w =
-        record {
-          is = λ j q. sym (attempt_on j q ∙ acted_idle (length buffer) (number m) j v.set y (effect_of x) (state_of n j.window_table b buffer p) (sym u ∙ w));
-          kinds = λ y l. refl;
-          grown = grown_none held;
-        }
-
-    -- It is acted on.
-    pub attempt_acts : {b' buffer' : List ℤ} {o : Progress} → Moved n ws (λ j. acted (length buffer) (number m) j v.set y (effect_of x)) b buffer p b' buffer' o → Swept n ws (λ j. try (number m) v.set y ∷ []) b buffer p b' buffer' o
-    attempt_acts o = record { is = λ j q. o.is j q ∙ sym (attempt_on j q); kinds = o.kinds; grown = o.grown }
+  -- A call's rule does on its windows what it does on the board.
+  pub does_there : {m : Bool} {y : ℕ} {x : Done} → Does k m y x → effect (own_end (rule (number m))) U y (finding (rule (number m)) j U k.set y) ≡ effect_of x
+  does_there {m} {y} d = outcome_agree j U (board k.board.now.words) table_agree m k.set y (rw h.events_are d.target) ∙ d.is j h
 
 -- ---- its slip
 
@@ -173,94 +163,108 @@ amount_within true h_max v w = w
 amount_within false h_min v w = record { most = omega arith; least = omega arith }
 amount_within false h_max v w = record { most = omega arith; least = omega arith }
 
-module _ {n : ℕ} {ws b buffer : List ℤ} {p : Progress} {v : SetPlace} {m : Bool} {y : ℕ} {x : Done} {s : List ℤ} {c : Citing} (held : Held n b buffer p) (placed : Placed n ws v) (does : Does n ws v b m y x) (alone : Alone ws v.at v.count b s) (cites : TotalCites m y (effect_of x) c) where
+module _ (k : SetJob) {m : Bool} {y : ℕ} {x : Done} {s : List ℤ} {c : Citing} (does : Does k m y x) (alone : Alone k k.count s) (cites : TotalCites m y (effect_of x) c) where
   -- It can be written.
-  pub writes : {r : ℕ} → r ≡ number m → Writes n (board s) c r v.set y
-  writes e =
+  pub writes : Writes k.events (board s) c k.set y
+  writes =
       record {
-        ranged = record { few = held.ranged.few; range = λ z l k. rw (alone.is z (omega (arith, held.ranged.few)) k) (amount_within _ k (board b z k) (held.ranged.range z l k)) };
-        known = cites.known n;
-        first = rw e (number_range m).0;
-        last = rw e (number_range m).1;
-        subject = omega (arith, placed.there, placed.few);
-        target = omega (arith, does.target, held.ranged.few);
+        ranged = record {
+          few = k.held.ranged.few;
+          range = λ z l i. rw (alone.is z (omega (arith, k.held.ranged.few)) i) (amount_within _ i (board k.board.now.words z i) (k.held.ranged.range z l i));
+        };
+        known = cites.known k.events;
+        subject = omega (arith, k.placed.there, k.placed.few);
+        target = omega (arith, does.target, k.held.ranged.few);
       }
 
-  module _ (j : Call) (h : Binds n ws j) where
-    shows : Shows (events j) (in_set j v.set) (board b) (board s)
+  module _ (j : Call) (h : Of k j) where
+    shows : Shows (events j) (in_set j k.set) (board k.board.now.words) (board s)
     shows =
-        let small : (z : ℕ) → z < events j → z < 64 = λ z l. omega (arith, held.ranged.few, h.events_are) in
+        let small : (z : ℕ) → z < events j → z < 64 = λ z l. omega (arith, k.held.ranged.few, h.events_are) in
         rw h.sets_are
         (record {
-          low = λ z l. alone.is z (small z l) h_min ∙ rw (placed.size, placed.begins);
-          high = λ z l. alone.is z (small z l) h_max ∙ rw (placed.size, placed.begins);
+          low = λ z l. alone.is z (small z l) h_min ∙ rw (k.placed.size, k.placed.begins);
+          high = λ z l. alone.is z (small z l) h_max ∙ rw (k.placed.size, k.placed.begins);
         })
 
     -- Its facts are the definitions'.
-    premises_are : premise_list n (cites_of c (board s)) (says_of c (board s)) ≡ premise_list (events j) (quotes (rule (number m)) j (board b) v.set y (effect_of x)) (quoted (rule (number m)) j (board b) v.set y (effect_of x))
+    premises_are : premise_list k.events (cites_of c (board s)) (says_of c (board s)) ≡ premise_list (events j) (quotes (rule (number m)) j (board k.board.now.words) k.set y (effect_of x)) (quoted (rule (number m)) j (board k.board.now.words) k.set y (effect_of x))
     premises_are =
         ap (λ i. premise_list i (cites_of c (board s)) (says_of c (board s))) (sym h.events_are)
-        ∙ rw (rule_is m) (set_premises j v.set (board b) (board s) cites shows (in_set_is placed h y ∙ does.member))
+        ∙ rw (rule_is m) (set_premises j k.set (board k.board.now.words) (board s) cites shows (in_set_is k h y ∙ does.member))
 
-    slip_is : slip_of n (board s) c (number m) v.set y x ≡ explanation (number m) j (windows (table_of n j.window_table b)) v.set y (effect_of x)
+    slip_is : slip_of k.events (board s) c (total m) k.set y x ≡ explanation (number m) j (windows (table_of k.events j.window_table k.board.now.words)) k.set y (effect_of x)
     slip_is =
-        let W = windows (table_of n j.window_table b) in
-        rw premises_are
-        (explanation_agree j (board b) W (agree_sym (events j) W (board b) (table_agree h b)) (number m) v.set y (effect_of x) (set_there placed h m))
+        let W = windows (table_of k.events j.window_table k.board.now.words) in
+        let here : slip_of k.events (board s) c (total m) k.set y x ≡ explanation (number m) j (board k.board.now.words) k.set y (effect_of x) = rw (premises_are, number_is m, rule_is m) in
+        here ∙ explanation_agree j (board k.board.now.words) W (agree_sym (events j) W (board k.board.now.words) (table_agree k h)) (number m) k.set y (effect_of x) (set_there k h m)
 
   -- Entered, and the new end stored.
-  pub act_moved : {r : ℕ} {buffer' b' : List ℤ} {q : Progress} {t : Bool} → is_idle (effect_of x) ≡ false → r ≡ number m → Entered (slip_of n (board s) c r v.set y x) (status_after (effect_of x)) buffer p buffer' q → t ≡ written (status_of q.status) → b' ≡ cond t (stored (own_end (rule r)) y (effect_of x) b) b
-      → Moved n ws (λ j. acted (length buffer) (number m) j v.set y (effect_of x)) b buffer p b' buffer' q
-  act_moved {r} busy e entered told put =
-      let entered' = rw e at entered in
-      let put' = rw e at put in
-      let i = rule (number m) in
-      record {
-        is = λ j h.
-            entered_is i held does.target does.narrower does.range entered' told put' j.window_table
-            ∙ sym (acted_slip (length buffer) (number m) j v.set y (effect_of x) (state_of n j.window_table b buffer p) busy ∙ rw (← slip_is j h));
-        kinds = entered_kinds i held does.target does.narrower does.range entered' told put';
-        grown = entered_grown i held does.target does.narrower does.range entered' told put';
-      }
+  module _ {l l' : Log} {b' : List ℤ} {t : Bool} (entered : Entered (slip_of k.events (board s) c (total m) k.set y x) (status_after (effect_of x)) l l') (told : t ≡ written (status_of l'.status)) (put : b' ≡ cond t (stored (own_end (total m)) y (effect_of x) k.board.now.words) k.board.now.words) where
+    pub act_held : Held k.events b'
+    act_held = entered_held (number m) k.held does.target does.narrower does.range entered told (rw (rule_is m) put)
+
+    pub act_moved : {k' : SetJob} → is_idle (effect_of x) ≡ false → k'.board.now.words ≡ b' → fixed k' ≡ fixed k → Moved (λ j. acted (room l) (number m) j k.set y (effect_of x)) k l k' l'
+    act_moved busy same stays =
+        record { leads = rw same (act_leads (number m) k.held does.target does.narrower does.range entered told (rw (rule_is m) put) busy slip_is); stays = stays }
 
 -- ---- in turn
 
-module _ {n : ℕ} {ws : List ℤ} where
-  pub swept_none : (f : ℕ → Call → List Attempt) {b buffer : List ℤ} {p : Progress} → Held n b buffer p → Swept n ws (λ j. each_of (λ i. f i j) 0 0) b buffer p b buffer p
-  unfolding each_of made
-  swept_none f h = record { is = λ j q. refl; kinds = λ y l. refl; grown = grown_none h }
+module _ {x y : GName × ℕ × List ℤ × ℕ × ℕ × ℕ} (e : x ≡ y) where
+  pub lent_is : x.0 ≡ y.0
+  lent_is = ap (λ (x : GName × ℕ × List ℤ × ℕ × ℕ × ℕ). x.0) e
 
-  module _ {b buffer : List ℤ} {p : Progress} {b' buffer' : List ℤ} {p' : Progress} {b'' buffer'' : List ℤ} {p'' : Progress} where
-    -- These, then those: the room is the buffer's length and stays.
-    pub swept_both : (f g : Call → List Attempt) → Swept n ws f b buffer p b' buffer' p' → Swept n ws g b' buffer' p' b'' buffer'' p'' → Swept n ws (λ j. f j ++ g j) b buffer p b'' buffer'' p''
-    swept_both f g m o =
-        record {
-          is = λ j q. o.is j q ∙ rw (m.grown.same, m.is j q) (sym (made_append (length buffer) j (f j) (g j) (state_of n j.window_table b buffer p)));
-          kinds = λ y l. o.kinds y l ∙ m.kinds y l;
-          grown = grown_more m.grown o.grown;
-        }
+  pub events_are : x.1 ≡ y.1
+  events_are = ap (λ (x : GName × ℕ × List ℤ × ℕ × ℕ × ℕ). x.1) e
 
-    -- In a loop: those so far, then those of i.
-    pub swept_on : (f : ℕ → Call → List Attempt) (i : ℕ) → Swept n ws (λ j. each_of (λ i. f i j) 0 i) b buffer p b' buffer' p' → Swept n ws (f i) b' buffer' p' b'' buffer'' p'' → Swept n ws (λ j. each_of (λ i. f i j) 0 (i + 1)) b buffer p b'' buffer'' p''
-    swept_on f i m o =
-        record {
-          is = λ j q. o.is j q ∙ rw (m.grown.same, m.is j q) (sym (made_more (length buffer) j (λ i. f i j) i (state_of n j.window_table b buffer p)));
-          kinds = λ y l. o.kinds y l ∙ m.kinds y l;
-          grown = grown_more m.grown o.grown;
-        }
+  pub sets_are : x.2 ≡ y.2
+  sets_are = ap (λ (x : GName × ℕ × List ℤ × ℕ × ℕ × ℕ). x.2) e
 
-  -- The same list in other words.
-  pub swept_as : {f g : Call → List Attempt} {b buffer : List ℤ} {p : Progress} {b' buffer' : List ℤ} {p' : Progress} → ((j : Call) → Binds n ws j → f j ≡ g j) → Swept n ws f b buffer p b' buffer' p' → Swept n ws g b buffer p b' buffer' p'
-  swept_as e m = record { is = λ j q. rw (← e j q) (m.is j q); kinds = m.kinds; grown = m.grown }
+  pub set_is : x.3 ≡ y.3
+  set_is = ap (λ (x : GName × ℕ × List ℤ × ℕ × ℕ × ℕ). x.3) e
+
+  pub count_is : x.5 ≡ y.5
+  count_is = ap (λ (x : GName × ℕ × List ℤ × ℕ × ℕ × ℕ). x.5) e
+
+-- Attempts that do nothing on the board do nothing to the set.
+pub swept_rest : (todo : Call → List Attempt) {k k' : SetJob} {l : Log} → fixed k' ≡ fixed k → k'.board.now.words ≡ k.board.now.words → Leads k.events (Of k) (λ j. made (room l) j (todo j)) k.board.now.words l k.board.now.words l → Swept todo k l k' l
+swept_rest todo e q d = record { leads = rw q d; stays = e }
+
+-- From the same set on the same board the same is done, and to it.
+pub moved_from : {f : Call → State → State} {k k₁ k' : SetJob} {l l' : Log} → fixed k₁ ≡ fixed k → k₁.board.now.words ≡ k.board.now.words → Moved f k₁ l k' l' → Moved f k l k' l'
+moved_from e q m = record { leads = rw (events_are e, sets_are e, q) at m.leads; stays = m.stays ∙ e }
+
+pub moved_to : {f : Call → State → State} {k k' k₁ : SetJob} {l l' : Log} → fixed k₁ ≡ fixed k' → k₁.board.now.words ≡ k'.board.now.words → Moved f k l k' l' → Moved f k l k₁ l'
+moved_to e q m = record { leads = rw q m.leads; stays = e ∙ m.stays }
+
+pub swept_none : (f : ℕ → Call → List Attempt) (k : SetJob) (l : Log) → Swept (λ j. each_of (λ i. f i j) 0 0) k l k l
+swept_none f k l = record { leads = leads_nothing f k.board.now.words l; stays = refl }
+
+module _ {k : SetJob} {l : Log} {k₁ : SetJob} {l₁ : Log} {k₂ : SetJob} {l₂ : Log} where
+  -- These, then those.
+  swept_both : (f g : Call → List Attempt) → Swept f k l k₁ l₁ → Swept g k₁ l₁ k₂ l₂ → Swept (λ j. f j ++ g j) k l k₂ l₂
+  swept_both f g m o =
+      record { leads = leads_both f g m.leads (λ j q. q) (rw (events_are m.stays, sets_are m.stays) at o.leads); stays = o.stays ∙ m.stays }
+
+  -- In a loop: those so far, then those of i.
+  pub swept_on : (f : ℕ → Call → List Attempt) (i : ℕ) → Swept (λ j. each_of (λ i. f i j) 0 i) k l k₁ l₁ → Swept (f i) k₁ l₁ k₂ l₂ → Swept (λ j. each_of (λ i. f i j) 0 (i + 1)) k l k₂ l₂
+  swept_on f i m o =
+      record { leads = leads_on f i m.leads (λ j q. q) (rw (events_are m.stays, sets_are m.stays) at o.leads); stays = o.stays ∙ m.stays }
+
+-- Both attempts of a member, in turn.
+pub both_swept : {k : SetJob} {l : Log} {k₁ : SetJob} {l₁ : Log} {k₂ : SetJob} {l₂ : Log} (y : ℕ) → Swept (λ j. try 17 k.set y ∷ []) k l k₁ l₁ → Swept (λ j. try 18 k₁.set y ∷ []) k₁ l₁ k₂ l₂ → Swept (λ j. both_attempts k.set y) k l k₂ l₂
+both_swept {k} {k₁ = k₁} {l₁} {k₂} {l₂} y m o =
+    swept_both (λ j. try 17 k.set y ∷ []) (λ j. try 18 k.set y ∷ []) m (subst (λ g. Swept (λ j. try 18 g y ∷ []) k₁ l₁ k₂ l₂) (set_is m.stays) o)
+
+-- As listed.
+pub member_swept : {k k' : SetJob} {l l' : Log} (g i : ℕ) {y : ℕ} → k.set ≡ g → y ≡ event_at k.sets.now k.at i → Swept (λ j. both_attempts k.set y) k l k' l' → Swept (λ j. both_attempts g (member j g i)) k l k' l'
+member_swept {k} {l = l} g i q e m =
+    record { leads = leads_as (λ j h s. ap (λ xs. made (room l) j xs s) (rw (← q) (ap (both_attempts k.set) (member_is k h i e)))) m.leads; stays = m.stays }
 
 -- A member that the slack spares: both its attempts are as if made.
-pub spared_passed : {n : ℕ} {ws b buffer : List ℤ} {p : Progress} {g y : ℕ} {s : ℤ} → Held n b buffer p → Spares n ws g (board b) s → y < n → is_member ws g y ≡ true → spares s (board b y h_min) (board b y h_max) ≡ true → Swept n ws (λ j. both_attempts g y) b buffer p b buffer p
-spared_passed {n} {ws} {b} {buffer} {p} {g} {y} held sp l i e =
-    record {
-      is = λ j q. sym (made_still (length buffer) j (state_of n j.window_table b buffer p) (both_attempts g y) (one j q false, (one j q true, tt)));
-      kinds = λ y l. refl;
-      grown = grown_none held;
-    }
+pub spared_passed : (k : SetJob) (l : Log) {k' : SetJob} {y : ℕ} {s : ℤ} → fixed k' ≡ fixed k → k'.board.now.words ≡ k.board.now.words → Spares k s → y < k.events → is_member k.sets.now k.set y ≡ true → spares s (board k.board.now.words y h_min) (board k.board.now.words y h_max) ≡ true → Swept (λ j. both_attempts k.set y) k l k' l
+spared_passed k l {y = y} stays same sp m i e =
+    swept_rest (λ j. both_attempts k.set y) stays same (leads_none (λ j q. made_still (room l) j (state_of k.events j.window_table k.board.now.words l) (both_attempts k.set y) (one j q false, (one j q true, tt))))
   where
-    one : (j : Call) → Binds n ws j → (m : Bool) → Idle (rule (number m)) j (windows (table_of n j.window_table b)) g y
-    one j q m = outcome_agree j (windows (table_of n j.window_table b)) (board b) (table_agree q b) m g y (rw q.events_are l) ∙ rw (rule_is m) (sp.still j q m y l i e)
+    one : (j : Call) → Of k j → (m : Bool) → Idle (rule (number m)) j (windows (table_of k.events j.window_table k.board.now.words)) k.set y
+    one j q n = outcome_agree j (windows (table_of k.events j.window_table k.board.now.words)) (board k.board.now.words) (table_agree k q) n k.set y (rw q.events_are m) ∙ rw (rule_is n) (sp.still j q n y m i e)

@@ -1,3 +1,3 @@
-pub mod Showing
 pub mod Binding
+pub mod Showing
 pub mod Walking

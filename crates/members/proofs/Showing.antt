@@ -15,6 +15,7 @@ use Rattle.model.specs.Job.{End, t_min, t_max, h_min, h_max, word, any}
 use Rattle.tables.specs.Board.{board}
 use Rattle.tables.proofs.Boarding.{board_set_same, board_set_event, board_set_end}
 use Rattle.totals.specs.Totals.{event_at}
+use Rattle.members.specs.declared.SetJob.{SetJob}
 use Rattle.members.specs.Members.{Blank, amount, Alone, shown_event}
 
 -- ---- one event's amounts
@@ -72,26 +73,32 @@ blank =
     place z l h_min = omega arith
     place z l h_max = omega arith
 
-module _ (ws : List ℤ) (at : ℕ) (b : List ℤ) where
-  none : (k : End) (v : ℤ) → pos 0 ≡ amount false k v
-  none t_min v = refl
-  none t_max v = refl
-  none h_min v = refl
-  none h_max v = refl
+none : (k : End) (v : ℤ) → pos 0 ≡ amount false k v
+none t_min v = refl
+none t_max v = refl
+none h_min v = refl
+none h_max v = refl
 
-  pub alone_none : {s : List ℤ} → Blank s → Alone ws at 0 b s
+module _ (k : SetJob) where
+  abbrev b : List ℤ
+  b = k.board.now.words
+
+  abbrev event : ℕ → ℕ
+  event i = event_at k.sets.now k.at i
+
+  pub alone_none : {s : List ℤ} → Blank s → Alone k 0 s
   unfolding any
-  alone_none h = record { whole = h.whole; is = λ z l k. h.is z l k ∙ none k (board b z k) }
+  alone_none h = record { whole = h.whole; is = λ z l e. h.is z l e ∙ none e (board b z e) }
 
-  pub alone_more : (i : ℕ) {s s' : List ℤ} {y : ℕ} → y < 64 → y ≡ event_at ws at i → Alone ws at i b s → s' ≡ shown_event b y s → Alone ws at (i + 1) b s'
+  pub alone_more : (i : ℕ) {s s' : List ℤ} {y : ℕ} → y < 64 → y ≡ event i → Alone k i s → s' ≡ shown_event b y s → Alone k (i + 1) s'
   unfolding any
   alone_more i {s} {s'} {y} p q h e =
-      rw (e, add-one i) (record { whole = event_whole b y s h.whole p; is = λ z l k. go z l k (ℕ_discrete y z) })
+      rw (e, add-one i) (record { whole = event_whole b y s h.whole p; is = λ z l e. go z l e (ℕ_discrete y z) })
     where
-      go : (z : ℕ) → z < 64 → (k : End) → Dec (y ≡ z) → board (shown_event b y s) z k ≡ amount (any i (λ l. eqb (event_at ws at l) z) || eqb (event_at ws at i) z) k (board b z k)
-      go z l k (yes d) =
-          rw (← d, eq-eqb (event_at ws at i) y (sym q), or-true (any i (λ l. eqb (event_at ws at l) y)))
-          (event_own b y s h.whole p (h.is y p t_min) (h.is y p t_max) k)
-      go z l k (no d) =
-          rw (ne_eqb (event_at ws at i) z (λ f. d (q ∙ f)), or-false (any i (λ l. eqb (event_at ws at l) z)))
-          (event_other b y s h.whole p z k l d ∙ h.is z l k)
+      go : (z : ℕ) → z < 64 → (e : End) → Dec (y ≡ z) → board (shown_event b y s) z e ≡ amount (any i (λ l. eqb (event l) z) || eqb (event i) z) e (board b z e)
+      go z l e (yes d) =
+          rw (← d, eq-eqb (event i) y (sym q), or-true (any i (λ l. eqb (event l) y)))
+          (event_own b y s h.whole p (h.is y p t_min) (h.is y p t_max) e)
+      go z l e (no d) =
+          rw (ne_eqb (event i) z (λ f. d (q ∙ f)), or-false (any i (λ l. eqb (event l) z)))
+          (event_other b y s h.whole p z e l d ∙ h.is z l e)

@@ -1,13 +1,12 @@
-// The questions to the set table. Any words are walked: a word past the table's end is read as 0.
-ghost use Rattle.std.specs.Prelude.{◌≡◌, ◌<◌, ◌≤◌};
+// The questions to the set table. Any words are walked.
+ghost use Rattle.std.specs.Prelude.{◌≡◌, ◌<◌, ◌≤◌, T, length};
 ghost use Rattle.model.specs.Job.{every};
 ghost use Rattle.model.specs.Questions.{set_whole, members_right, totals_right, total_in_range, set_questions};
-ghost use Rattle.sets.specs.Sets.{count_at};
-ghost use Rattle.questions.specs.Asked.{check_of, is_new, member_right_at};
+ghost use Rattle.questions.specs.Asked.{check_of, is_new, member_right};
 
 use crate::asked::{each, is_event};
 use crate::{Question, Refusal};
-use sets::{LEAST_TOTAL, MOST_TOTAL, begin, count, sets, word};
+use sets::{LEAST_TOTAL, MOST_TOTAL, begin, members, sets, word};
 
 // Is set g one of the first 16, and whole?
 fn set_whole(ws: &[i32], g: usize) -> bool
@@ -16,37 +15,29 @@ fn set_whole(ws: &[i32], g: usize) -> bool
     g < 16 && begin(ws, g + 1) <= ws.len()
 }
 
-// Is member i of the set that begins at `at` another than those before it?
-fn is_new(ws: &[i32], at: usize, i: usize) -> bool
-    requires { i < 2147483648 }
-    ensures { result ≡ is_new ws.now at i }
+// Is member i of a set another than those before it?
+fn is_new(members: &[i32], i: usize) -> bool
+    requires { i < length members.now }
+    ensures { result ≡ is_new members.now i }
 {
-    (0..i).all(|k| word(ws, at, 3 + k) != word(ws, at, 3 + i))
+    !members[..i].contains(&members[i])
 }
 
-// Is it an event, of n, and another than those before it?
-fn member_right(n: usize, ws: &[i32], at: usize, i: usize) -> bool
-    requires { (n ≤ 64) × (i < 2147483648) }
-    ensures { result ≡ member_right_at n ws.now at i }
-{
-    is_event(word(ws, at, 3 + i), n as i32) && is_new(ws, at, i)
-}
-
-// Are all members of the set that begins at `at` so?
-fn all_right(n: usize, ws: &[i32], at: usize) -> bool
+// Are all of a set's members events, of n, none twice?
+fn all_right(n: usize, members: &[i32]) -> bool
     requires { n ≤ 64 }
-    ensures { result ≡ every (count_at ws.now at) (member_right_at n ws.now at) }
+    ensures { result ≡ every (length members.now) (member_right n members.now) }
 {
-    (0..count(ws, at)).all(|i| member_right(n, ws, at, i))
+    (0..members.len()).all(|i| is_event(members[i], n as i32) && is_new(members, i))
 }
 
-// Has set g members, all of them events, of n, none twice?
+// Has set g, which is whole, members, all of them so?
 fn members_right(n: usize, ws: &[i32], g: usize) -> bool
-    requires { (n ≤ 64) × (g ≤ 17) }
+    requires { (n ≤ 64) × T (set_whole ws.now g) }
     ensures { result ≡ members_right n ws.now g }
 {
-    let at = begin(ws, g);
-    1 <= word(ws, at, 2) && all_right(n, ws, at)
+    let members = members(ws, begin(ws, g));
+    !members.is_empty() && all_right(n, members)
 }
 
 fn total_in_range(x: i32) -> bool
@@ -66,7 +57,7 @@ fn totals_right(ws: &[i32], g: usize) -> bool
     total_in_range(least) && total_in_range(most) && least <= most
 }
 
-// To the set table of a job of n events.
+// To the set table of a job of n events; all sets are whole before their members are read.
 pub fn set_questions(n: usize, ws: &[i32]) -> Result<(), Refusal>
     requires { n ≤ 64 }
     ensures { check_of result ≡ set_questions n ws.now }

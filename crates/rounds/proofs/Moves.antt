@@ -17,6 +17,7 @@ use Rattle.tables.proofs.Holding.{serves_alike}
 use Rattle.tables.specs.Job.{Holds}
 use Rattle.tables.specs.declared.Job.{Job}
 use Rattle.slips.proofs.Wording.{drop_later}
+use Rattle.rounds.specs.Held.{Held}
 use Rattle.rounds.specs.State.{room, state_of, Grown, Leads, fixed, Of, Moves, Made}
 use Rattle.rounds.specs.declared.Log.{Log}
 use Rattle.rounds.specs.declared.CageJob.{CageJob}
@@ -42,6 +43,10 @@ grown_more {l} {l'} {l''} g h =
 
 -- ---- on a board
 
+-- What holds of the board at the end holds of it by another name.
+pub held_as : {n n' : ℕ} {b x : List ℤ} → n' ≡ n → x ≡ b → Held n' b → Held n x
+held_as e q h = rw (← e, q) h
+
 module _ {n : ℕ} {P : Call → Type 0} where
   -- Nothing is done.
   pub leads_none : {f : Call → State → State} {b : List ℤ} {l : Log} → ((j : Call) → P j → f j (state_of n j.window_table b l) ≡ state_of n j.window_table b l) → Leads n P f b l b l
@@ -50,6 +55,10 @@ module _ {n : ℕ} {P : Call → Type 0} where
   -- The same in other words.
   pub leads_as : {f g : Call → State → State} {b : List ℤ} {l : Log} {b' : List ℤ} {l' : Log} → ((j : Call) → P j → (s : State) → f j s ≡ g j s) → Leads n P f b l b' l' → Leads n P g b l b' l'
   leads_as {b = b} {l} h d = record { is = λ j q. d.is j q ∙ h j q (state_of n j.window_table b l); kinds = d.kinds; grown = d.grown }
+
+  -- The board at the end by another name.
+  pub leads_to : {f : Call → State → State} {b : List ℤ} {l : Log} {b' x : List ℤ} {l' : Log} → x ≡ b' → Leads n P f b l b' l' → Leads n P f b l x l'
+  leads_to e d = rw e d
 
   -- First these attempts, then those: the room is the buffer's length and stays.
   leads_then : {Q : Call → Type 0} (todo more all : Call → List Attempt) {b : List ℤ} {l : Log} {b₁ : List ℤ} {l₁ : Log} {b₂ : List ℤ} {l₂ : Log}

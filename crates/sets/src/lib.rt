@@ -1,7 +1,7 @@
 // The set table: the sets one after another, each least total, most total, member count, members. Where each set begins; any words are walked.
 #![tactic(auto)]
 
-ghost use Rattle.std.specs.Prelude.{◌≡◌, ◌+◌, ◌<◌, ◌≤◌};
+ghost use Rattle.std.specs.Prelude.{◌≡◌, ◌+◌, ◌<◌, ◌≤◌, length, take, drop};
 ghost use Rattle.model.specs.Job.{set_begin, begun};
 ghost use Rattle.sets.specs.Sets.{word_at, count_at};
 
@@ -13,7 +13,7 @@ pub const MOST_TOTAL: i32 = 639936;
 
 pub const LEAST_TOTAL: i32 = -639936;
 
-// ---- words
+// ---- a set by its table and the place of its first word; callers keep the place beside other numbers, so a struct of the two would be made anew at each call
 
 // Word i of the set that begins at `at`; 0 past the table's end.
 pub fn word(ws: &[i32], at: usize, i: usize) -> i32
@@ -27,6 +27,15 @@ pub fn count(ws: &[i32], at: usize) -> usize
     ensures { (result ≡ count_at ws.now at) × (result < 2147483648) }
 {
     usize::try_from(word(ws, at, 2)).unwrap_or(0)
+}
+
+// The members of the set that begins at `at`, where the table has them all.
+pub fn members(ws: &[i32], at: usize) -> &[i32]
+    requires { at + 3 + count_at ws.now at ≤ length ws.now }
+    ensures { result.now ≡ take (count_at ws.now at) (drop (at + 3) ws.now) }
+{
+    let first = at + 3;
+    &ws[first..first + count(ws, at)]
 }
 
 // Where the set after it begins.

@@ -3,4 +3,4 @@ use Rattle.questions.proofs.Ranges.{all_below}
 use Rattle.questions.proofs.asked_sets.all_right.Goals as goal
 
 pub returns : goal.returns
-returns c = rw (← c.count.ensures.0) (all_below c.count.result _ _ _ c.all.result c.all.ensures.ran (λ x b q k. search rules))
+returns c = all_below _ _ _ _ c.all.result c.all.ensures.ran (λ x b q k. search rules)

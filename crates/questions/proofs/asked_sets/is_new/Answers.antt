@@ -1,6 +1,6 @@
-use Rattle.std.proofs.Common.{rules}
-use Rattle.questions.proofs.Ranges.{all_below}
+use Rattle.std.proofs.Common.{◌∙◌, ap, not, arith}
+use Rattle.questions.proofs.Members.{new_among}
 use Rattle.questions.proofs.asked_sets.is_new.Goals as goal
 
 pub returns : goal.returns
-returns c = all_below c.args.i _ _ _ c.all.result c.all.ensures.ran (λ x b q k. search rules)
+returns c = ap not c.contains.ensures.value ∙ new_among c.args.members.now c.args.i _ (omega arith)

@@ -1,0 +1,142 @@
+// The attempts of a set, of all sets.
+ghost use Rattle.std.specs.Prelude.{◌≡◌, true, false, [], ◌∷◌, ◌<◌};
+ghost use Rattle.model.specs.Agenda.{try, set_attempts};
+ghost use Rattle.model.specs.Rounds.{acted, made};
+ghost use Rattle.tables.specs.Board.{board};
+ghost use Rattle.rules.specs.Values.{effect_of, is_idle};
+ghost use Rattle.rounds.specs.Held.{Held};
+ghost use Rattle.rounds.specs.State.{room, Leads};
+ghost use Rattle.members.specs.Placed.{SaneSets, is_member};
+ghost use Rattle.members.specs.Members.{Binds, Moved, Swept, sets_attempts, number, both_attempts, Blank, Alone, shown_event, Does, Spares};
+
+use crate::SetJob;
+use facts::premises::total_citing;
+use rounds::Log;
+use rounds::attempts::store_if;
+use rules::{Effect, Rule};
+use sets::{count, sets as begun};
+use silence::slack::is_spared;
+use slips::Header;
+use slips::writing::Quoting;
+use tables::{Board, End, Height};
+use totals::{member, slack, total_effect};
+
+// Event y's amounts stored on a board.
+fn show_event(b: &Board, y: usize, s: &mut Board)
+    requires { y < 64 }
+    ensures { s.new.words ≡ shown_event b.now.words y s.old.words }
+{
+    s.set_end(End::HMin, y, b.end(End::HMin, y));
+    s.set_end(End::HMax, y, b.end(End::HMax, y));
+}
+
+impl SetJob<'_> {
+    // The amounts of its members alone: the board that the facts of its slips are read off.
+    fn show(&self, s: &mut Board)
+        requires { Blank s.old.words }
+        ensures { Alone self.now self.now.count s.new.words }
+    {
+        for i in 0..self.count {
+            show_event(self.board, member(self.sets, self.at, i), s);
+        }
+    }
+
+    // ---- one attempt
+
+    // A narrowing or a conflict of rule 17, in the mirror 18, with target y: its slip is entered, then the new end is stored.
+    fn act(&mut self, mirror: bool, y: usize, x: Effect, log: &mut Log<'_>)
+        requires { Does self.old mirror y x × (is_idle (effect_of x) ≡ false) }
+        ensures { Moved (λ j. acted (room log.old) (number mirror) j self.old.set y (effect_of x)) self.old log.old self.new log.new }
+    {
+        let mut s = Board::blank();
+        self.show(&mut s);
+        let facts = Quoting {
+            board: &s,
+            events: self.events,
+            cited: total_citing(mirror, y, x),
+        };
+        let rule = Rule::Total { mirror };
+        let header = Header {
+            rule,
+            subject: self.set,
+            target: y,
+            effect: x,
+        };
+        log.enter(header, &facts);
+        store_if(self.board, log.is_written(), rule, y, x);
+    }
+
+    // One attempt of it; none once the call has ended.
+    fn attempt(&mut self, mirror: bool, y: usize, log: &mut Log<'_>)
+        requires { (y < self.old.events) × (is_member self.old.sets.now self.old.set y ≡ true) }
+        ensures { Swept (λ j. try (number mirror) self.old.set y ∷ []) self.old log.old self.new log.new }
+    {
+        if !log.is_running() {
+            return;
+        }
+        let s = slack(self.board, self.sets, self.at, self.count, mirror);
+        let x = total_effect(self.board, mirror, y, s);
+        if x.is_idle() {
+            return;
+        }
+        self.act(mirror, y, x, log);
+    }
+
+    // ---- the set
+
+    // Rules 17 and 18 for the member y: what the first moves the second reads.
+    fn both_rules(&mut self, y: usize, log: &mut Log<'_>)
+        requires { (y < self.old.events) × (is_member self.old.sets.now self.old.set y ≡ true) }
+        ensures { Swept (λ j. both_attempts self.old.set y) self.old log.old self.new log.new }
+    {
+        self.attempt(false, y, log);
+        self.attempt(true, y, log);
+    }
+
+    // The smaller slack of its two sides: a member whose amounts it spares stays as it is.
+    fn least_slack(&self) -> Height
+        ensures { Spares self.now result.0 }
+    {
+        let low = slack(self.board, self.sets, self.at, self.count, false);
+        let high = slack(self.board, self.sets, self.at, self.count, true);
+        Height(low.0.min(high.0))
+    }
+
+    // Its members as listed. Its slack is added up once, and again after a member that it does not spare.
+    fn set_rules(&mut self, log: &mut Log<'_>)
+        ensures { Swept (λ j. set_attempts j self.old.set) self.old log.old self.new log.new }
+    {
+        let mut s = self.least_slack();
+        for i in 0..self.count {
+            let y = member(self.sets, self.at, i);
+            if !is_spared(self.board, y, s) {
+                self.both_rules(y, log);
+                s = self.least_slack();
+            }
+        }
+    }
+}
+
+// ---- all sets
+
+// The attempts of a round that are the sets': equal to those of every call of n events with these set words.
+pub fn all_sets(board: &mut Board, events: usize, sets: &[i32], log: &mut Log<'_>)
+    requires { Held events board.old.words × SaneSets events sets.now }
+    ensures { Leads events (Binds events sets.now) (λ j. made (room log.old) j (sets_attempts j)) board.old.words log.old board.new.words log.new
+        × Held events board.new.words }
+{
+    let mut at: usize = 0;
+    for set in 0..begun(sets) {
+        let count = count(sets, at);
+        let mut job = SetJob {
+            board: &mut *board,
+            events,
+            sets,
+            set,
+            at,
+            count,
+        };
+        job.set_rules(log);
+        at += 3 + count;
+    }
+}
