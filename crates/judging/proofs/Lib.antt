@@ -1,6 +1,6 @@
 pub mod Storing
 pub mod Facts
-pub mod Named
+pub mod Asking
 pub mod Passing
-pub mod Widest
 pub mod Seating
+pub mod Widest

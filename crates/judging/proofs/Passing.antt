@@ -1,31 +1,38 @@
 -- What a slip that names what is there gives its later questions.
 -- Assumes nothing.
-use mathlib.Core.Path.{◌≡◌, refl, ◌∙◌}
-use mathlib.Core.Bool.{Bool, true, false, cond, ◌&&◌}
+use mathlib.Core.Path.{◌≡◌, refl, ap, ◌∙◌}
 use mathlib.Core.List.{List}
-use Prim.Native.Nat.{ℕ, ◌/◌, ◌<◌, ◌≤◌}
+use Prim.Native.Nat.{ℕ}
+use mathlib.Core.Bool.{Bool, true, false, cond, ◌&&◌}
+use Prim.Native.Nat.{◌<◌, ◌≤◌}
 use native.Mathlib.Omega.{arith}
 use lib.Dec.{T}
-use lib.IntN.{ℤ, pos, nat_abs}
-use lib.ListN.{length}
+use lib.IntN.{ℤ, pos}
 use lib.Signed.{le_z}
 use Rattle.integers.specs.Range.{Within, eq_z}
 use Rattle.integers.proofs.Linear.{ints}
-use Rattle.model.specs.Job.{End, t_min, t_max, h_min, h_max, meets, Windows, produces, Inside, Job as Call, events, begun}
+use Rattle.model.specs.Job as model
+use Rattle.model.specs.Job.{End, t_min, t_max, h_min, h_max, meets, Windows, windows, produces, Inside, events, begun}
 use Rattle.model.specs.Standing.{span, Ranged}
-use Rattle.model.specs.Rules.{Finding, finding, rule, own_end, effect, failed, subjects, target_fits}
-use Rattle.model.specs.Slips.{Premise, Explanation, rule_of, subject_of, target_of}
+use Rattle.model.specs.Rules.{Finding, lag_upper, lag_lower, total, finding, own_end, effect, failed, subjects, target_fits}
+use Rattle.model.specs.Slips.{Premise, Explanation, subject_of, target_of}
 use Rattle.model.specs.Questions.{is_event}
 use Rattle.model.specs.Reader.{names, premises_fit, kind_fits, all_true, narrowed, as_strict, gives}
+use Rattle.model.proofs.Agree.{gives_agree}
 use Rattle.model.proofs.Order.{inside_narrowed, narrowed_in}
 use Rattle.model.proofs.Sound.{named}
 use Rattle.tables.specs.Job.{Kinds, Fit}
 use Rattle.totals.proofs.Summing.{adds_at}
-use Rattle.tables.specs.declared.Job.{Job}
+use Rattle.model.specs.Slips as model_slips
+use Rattle.rules.specs.Values.{variant_of, rule_of, Tries}
+use Rattle.rules.specs.declared.Variant.{Variant}
+use Rattle.rules.proofs.Numbering.{rule_number}
 use Rattle.slips.specs.Slip.{headed, explanation_of}
-use Rattle.slips.specs.declared.Slip.{Slip}
-use Rattle.judging.specs.Ready.{Shares, Grouped, Attempts, Totalled, Belongs}
-use Rattle.judging.proofs.Named.{subjects_are, subject_lag, subject_set, late_rule, event_is}
+use Rattle.judging.specs.Ready.{job_of, Sits, Sought, AtHome, Totalled, Belongs, Same}
+use Rattle.judging.specs.declared.Call.{Call}
+use Rattle.judging.specs.declared.Named.{Named}
+use Rattle.judging.proofs.Asking.{events_are, event_is}
+use Rattle.judging.proofs.Facts.{fit_wide}
 
 -- ---- ranges and deliveries
 
@@ -54,54 +61,88 @@ narrowed_kinds {n} {wide} {W} fs i k t y l =
 -- ---- question 16
 
 -- A slip's rule gives its conclusion as its finding does.
-pub gives_by : (j : Call) (W : Windows) (s : Slip) (fs : List Premise) {e y : ℕ} {f : Finding} {r : Bool} → f ≡ finding (rule s.rule) j W e y → e ≡ nat_abs s.subject.0 → y ≡ nat_abs s.target.0 →
-    r ≡ cond (eq_z s.kind.0 (pos 0)) (failed (effect (own_end (rule s.rule)) W y f)) (as_strict (own_end (rule s.rule)) s.value.0 f) → r ≡ gives j W (headed s fs)
+pub gives_by : (j : model.Job) (W : Windows) (s : Named) (fs : List Premise) {f : Finding} {r : Bool} → f ≡ finding (rule_of s.slip.rule) j W s.subject s.target →
+    r ≡ cond (eq_z s.slip.kind.0 (pos 0)) (failed (effect (own_end (rule_of s.slip.rule)) W s.target f)) (as_strict (own_end (rule_of s.slip.rule)) s.slip.value.0 f) → r ≡ gives j W (headed s.slip fs)
 unfolding gives
-gives_by j W s fs p q r h = h ∙ rw (p, q, r)
+gives_by j W s fs p h = h ∙ rw (rule_number (rule_of s.slip.rule), p, s.subject_is, s.target_is)
 
 -- ---- its rule can be tried
 
-module _ {k : Job} {ws gs : List ℤ} {j : Call} (h : Shares k ws gs j) (list : List ℤ) (s : Slip) (t : T (names j (explanation_of list s))) where
+-- On windows that agree with those that it was asked of.
+module _ (c : Call) (W X : Windows) (s : Named) (a : Sought c W s) (same : Same X W) where
+  abbrev j : model.Job
+  j = job_of c
+
+  few : c.job.events ≤ 64
+  few = a.range.few
+
+  counted : events j ≡ c.job.events
+  counted = events_are c.job c.cages.now c.table.now c.lags.now c.sets.now a.seated
+
+  range : Ranged c.job.events X
+  range = record { few = few; range = λ z p i. rw (same z (let f = few in omega arith) i) (a.range.range z p i) }
+
+  pub kinds : Kinds c.job.events X (windows c.table.now)
+  kinds z p = ap produces (same z (let f = few in omega arith) h_max) ∙ a.kinds z p
+
+  there : s.target < c.job.events
+  there = rw (s.target_is, ← counted) (named j (explanation_of s.slip) a.named).target_real
+
+  -- The subject is one of the rule's.
+  subject : s.subject < subjects (rule_of s.slip.rule) j
+  subject = rw s.subject_is (rw (rule_number (rule_of s.slip.rule)) at (named j (explanation_of s.slip) a.named).subject_real)
+
+  -- The target fits it.
+  fits : T (target_fits (rule_of s.slip.rule) j s.subject s.target)
+  fits = rw (s.subject_is, s.target_is) (rw (rule_number (rule_of s.slip.rule)) at (named j (explanation_of s.slip) a.named).target_right)
+
   -- A lag's.
-  pub attempts : {X : Windows} {e y : ℕ} → Fit k ws → 1 ≤ s.rule → s.rule < 3 → Ranged k.events X → e ≡ nat_abs s.subject.0 → y ≡ nat_abs s.target.0 → Attempts k ws X s e y
-  attempts {X} {e} f low high r p q =
-      let o = named j (explanation_of list s) t in
-      let lag = subject_lag s.rule k ws gs low high in
-      let there : e < length ws / 3 = rw (p, lag.1, ← subjects_are h (rule_of (explanation_of list s))) o.subject_real in
-      record {
-        tries = record { fit = f; windows = r; first = low; last = omega arith; subject = rw (← lag.0) there; target = rw (q, ← h.events_are) o.target_real };
-        subject = p;
-        target = q;
-      }
+  pub tries_upper : Fit c.job c.lags.now → rule_of s.slip.rule ≡ lag_upper → Tries c.job c.lags.now X (rule_of s.slip.rule) s.subject s.target
+  tries_upper f e = record { fit = f; windows = range; subject = rw e (rw e at subject); target = there }
+
+  pub tries_lower : Fit c.job c.lags.now → rule_of s.slip.rule ≡ lag_lower → Tries c.job c.lags.now X (rule_of s.slip.rule) s.subject s.target
+  tries_lower f e = record { fit = f; windows = range; subject = rw e (rw e at subject); target = there }
 
   -- A set's.
-  pub totalled : {X : Windows} {e y : ℕ} → Grouped k.events gs → 17 ≤ s.rule → s.rule ≤ 18 → Ranged k.events X → e ≡ nat_abs s.subject.0 → y ≡ nat_abs s.target.0 → Totalled gs X s e y × Belongs gs j e y
-  totalled {X} {e} {y} f low high r p q =
-      let o = named j (explanation_of list s) t in
-      let there : e < begun gs 17 = rw (p, subject_set s.rule k ws gs low high, ← subjects_are h (rule_of (explanation_of list s))) o.subject_real in
-      let event : y < k.events = rw (q, ← h.events_are) o.target_real in
-      let sane = f.sane e there in (
+  pub totalled : (m : Bool) → rule_of s.slip.rule ≡ total m → Totalled c.sets.now X m s × Belongs c.sets.now j s.subject s.target
+  totalled m is =
+      let e = rw is at subject in
+      let sane = a.seated.sane.set_sane s.subject e in
+      let most = a.seated.sane.few_sets in (
         record {
-          rule_low = low;
-          rule_high = high;
-          few = omega (arith, f.few);
-          adds = adds_at sane r;
-          there = omega (arith, r.few);
-          low = r.range y event h_min;
-          high = r.range y event h_max;
-          subject = p;
-          target = q;
+          rule_is = is;
+          few = omega arith;
+          adds = adds_at (rw counted at sane) range;
+          there = omega (arith, there, few);
+          low = range.range s.target there h_min;
+          high = range.range s.target there h_max;
         },
-        record {
-          sets_are = h.sets_are;
-          sane = rw h.events_are sane;
-          event = rw h.events_are event;
-          member = rw (p, q) (rw (late_rule s.rule low high) at o.target_right);
-        },
+        record { sets_are = refl; sane = sane; event = rw counted there; member = rw is at fits },
       )
 
-  pub facts_fit : T (premises_fit k.events (explanation_of list s).premises)
-  facts_fit = rw (← h.events_are) (named j (explanation_of list s) t).premises_real
+  -- That of a rule at an event.
+  pub at_home : (v : Variant) → rule_of s.slip.rule ≡ variant_of v → AtHome c X s
+  at_home v is =
+      record {
+        seated = a.seated;
+        range = range;
+        kinds = kinds;
+        variant = v;
+        rule_is = is;
+        event = rw counted at (rw is at subject);
+        there = there;
+        fits = fits;
+      }
+
+  -- The rule gives on them what it gives there.
+  pub agreed : gives j X (explanation_of s.slip) ≡ gives j W (explanation_of s.slip)
+  agreed = let f = a.seated.sane.few_events in gives_agree j X W (λ y l i. same y (omega arith) i) a.seated.sane (explanation_of s.slip) a.named
+
+-- Its facts name what is there.
+pub facts_fit : (c : Call) → Sits c → (s : Named) → T (names (job_of c) (explanation_of s.slip)) → T (premises_fit 64 (explanation_of s.slip).premises)
+facts_fit c seated s t =
+    let few = seated.sane.few_events in
+    fit_wide (events (job_of c)) (explanation_of s.slip).premises few (named (job_of c) (explanation_of s.slip) t).premises_real
 
 -- The two numbers of the header are not negative.
 first_two : (a b c d e : Bool) → T (a && b && c && d && e) → T a × T b
@@ -109,8 +150,8 @@ first_two true true c d e t = (tt, tt)
 first_two true false c d e t = absurd t
 first_two false b c d e t = absurd t
 
-pub header_signs : (j : Call) (x : Explanation) → T (names j x) → T (le_z (pos 0) x.subject) × T (le_z (pos 0) x.target)
+pub header_signs : (j : model.Job) (x : Explanation) → T (names j x) → T (le_z (pos 0) x.subject) × T (le_z (pos 0) x.target)
 unfolding names
 header_signs j x t =
-    let o = first_two (is_event (subjects (rule_of x) j) x.subject) (is_event (events j) x.target) (premises_fit (events j) x.premises) (target_fits (rule_of x) j (subject_of x) (target_of x)) (kind_fits (rule_of x) x.kind x.value) t in
-    ((event_is (subjects (rule_of x) j) x.subject o.0).1, (event_is (events j) x.target o.1).1)
+    let o = first_two (is_event (subjects (model_slips.rule_of x) j) x.subject) (is_event (events j) x.target) (premises_fit (events j) x.premises) (target_fits (model_slips.rule_of x) j (subject_of x) (target_of x)) (kind_fits (model_slips.rule_of x) x.kind x.value) t in
+    ((event_is (subjects (model_slips.rule_of x) j) x.subject o.0).1, (event_is (events j) x.target o.1).1)

@@ -1,19 +1,18 @@
 -- The widest windows on a board.
-use Rattle.std.specs.Prelude.{◌≡◌, cond, List, ℕ, ◌<◌, eqb, ℤ, pos}
+use Rattle.std.specs.Prelude.{◌≡◌, List, ℕ, ◌<◌, ℤ, pos}
 use Rattle.model.specs.Job.{End, t_min, t_max, h_min, h_max, Windows, widest_h_min, widest_h_max}
 use Rattle.tables.specs.Board.{board, Whole}
 
--- The windows W opened: 0..H, and the widest amounts of each event's kind.
-abbrev pub opened : ℤ → Windows → Windows
-opened h W y t_min = pos 0
-opened h W y t_max = h
-opened h W y h_min = widest_h_min (W y h_max)
-opened h W y h_max = widest_h_max (W y h_max)
+-- The widest windows of an event's kind, of which v is an amount: 0..H, and the widest amounts.
+abbrev pub widest_of : ℤ → ℤ → End → ℤ
+widest_of h v t_min = pos 0
+widest_of h v t_max = h
+widest_of h v h_min = widest_h_min v
+widest_of h v h_max = widest_h_max v
 
--- Event y's are opened, the other events' are as they were.
-pub record Widened (h : ℤ) (W : Windows) (y : ℕ) (b b' : List ℤ) : Type 0 where
-  pub whole : Whole b'
-  pub is : (z : ℕ) → z < 64 → (k : End) → board b' z k ≡ cond (eqb z y) (opened h W y k) (board b z k)
+-- The windows W opened.
+abbrev pub opened : ℤ → Windows → Windows
+opened h W y k = widest_of h (W y h_max) k
 
 -- Those of the first n events are opened.
 pub record Wide (n : ℕ) (h : ℤ) (W : Windows) (b : List ℤ) : Type 0 where

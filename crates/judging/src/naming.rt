@@ -1,67 +1,53 @@
 // 14: what a slip names.
 ghost use Rattle.std.specs.Prelude.{◌≡◌, ◌<◌, ◌≤◌, eqb, nat_abs};
-ghost use Rattle.model.specs.Job.{any, set_begin, member_count, member_word, Job as Call};
-ghost use Rattle.model.specs.Rules.{rule, target_fits};
+ghost use Rattle.model.specs.Job.{any, set_begin, member_count, member_word};
+ghost use Rattle.model.specs.Rules.{subjects, target_fits};
 ghost use Rattle.model.specs.Questions.{is_event};
-ghost use Rattle.model.specs.Reader.{has_bound, kind_fits, names};
-ghost use Rattle.tables.specs.Job.{Fit};
+ghost use Rattle.model.specs.Reader.{has_bound, kind_fits};
+ghost use Rattle.rules.specs.Values.{rule_of};
 ghost use Rattle.totals.specs.Totals.{Listed};
-ghost use Rattle.slips.specs.Slip.{explanation_of, Stands};
-ghost use Rattle.judging.specs.Ready.{Shares, Grouped, subjects_in};
+ghost use Rattle.judging.specs.Ready.{job_of, Sits, Names14};
 
 use crate::premises::facts_fit;
-use rules::lags::lag_event;
-use rules::numbers::{own_kind, variant};
+use crate::{Call, Named};
+use rules::lags::Lag;
+use rules::{Family, Rule};
 use sets::{begin, count, sets as begun};
 use slips::Slip;
 use slips::words::{index, is_event, word_is};
-use tables::{Job, Word};
+use tables::Word;
 use totals::is_member;
 
 // Does rule r give bounds? A level rule concludes conflict alone.
-fn gives_bound(r: usize) -> bool
-    requires { (1 ≤ r) × (r ≤ 18) }
-    ensures { result ≡ has_bound (rule r) }
+fn gives_bound(r: Rule) -> bool
+    ensures { result ≡ has_bound (rule_of r) }
 {
-    if r < 3 {
-        return true;
+    match r {
+        Rule::Reservoir(v) => v.family != Family::Level,
+        Rule::LagUpper | Rule::LagLower | Rule::Total { mirror: _ } => true,
     }
-    if r > 14 {
-        return true;
-    }
-    let v = variant(r);
-    let family = v.family;
-    family != 0
 }
 
 // Is the kind the rule's own, or 0 with value 0?
-fn kind_right(r: usize, kind: Word, value: Word) -> bool
-    requires { (1 ≤ r) × (r ≤ 18) }
-    ensures { result ≡ kind_fits (rule r) kind.0 value.0 }
+fn kind_right(r: Rule, kind: Word, value: Word) -> bool
+    ensures { result ≡ kind_fits (rule_of r) kind.0 value.0 }
 {
     if word_is(kind, 0) {
         return word_is(value, 0);
     }
-    if !gives_bound(r) {
-        return false;
-    }
-    word_is(kind, own_kind(r))
+    gives_bound(r) && word_is(kind, r.own_end().kind())
 }
 
-// Is the subject a lag in rules 1 and 2, a set in 17 and 18, else an event?
-fn subject_there(lags: &[i32], sets: &[i32], k: Job, r: usize, subject: Word) -> bool
-    requires { (1 ≤ r) × (r ≤ 18) × (14 < r → 17 ≤ r) × Fit k lags.now }
-    ensures { result ≡ is_event (subjects_in (rule r) k lags.now sets.now) subject.0 }
+// How many subjects rule r has: lags in rules 1 and 2, sets in 17 and 18, else events.
+fn subjects(c: &Call, r: Rule) -> usize
+    requires { Sits c.now }
+    ensures { (result ≡ subjects (rule_of r) (job_of c.now)) × (result ≤ 256) }
 {
-    if r < 3 {
-        let g = lags.len() / 3;
-        return is_event(subject, g);
+    match r {
+        Rule::LagUpper | Rule::LagLower => c.lags.len() / 3,
+        Rule::Reservoir(_) => c.job.events,
+        Rule::Total { mirror: _ } => begun(c.sets),
     }
-    if r > 14 {
-        let groups = begun(sets);
-        return is_event(subject, groups);
-    }
-    is_event(subject, k.events)
 }
 
 // Is y a member of set g?
@@ -74,52 +60,45 @@ fn in_set(sets: &[i32], g: usize, y: usize) -> bool
 }
 
 // Does the target fit the rule: a, b, or e; any event in 5, 8, 11, 14; a member in 17 and 18?
-fn target_right(lags: &[i32], sets: &[i32], k: Job, r: usize, e: usize, y: usize) -> bool
-    requires { (1 ≤ r)
-        × (r ≤ 18)
-        × (14 < r → 17 ≤ r)
-        × Fit k lags.now
-        × Grouped k.events sets.now
-        × (e < subjects_in (rule r) k lags.now sets.now) }
-    ensures { (j : Call) → Shares k lags.now sets.now j → result ≡ target_fits (rule r) j e y }
+fn target_right(c: &Call, r: Rule, e: usize, y: usize) -> bool
+    requires { Sits c.now × (e < subjects (rule_of r) (job_of c.now)) }
+    ensures { result ≡ target_fits (rule_of r) (job_of c.now) e y }
 {
-    if r == 1 {
-        return y == lag_event(lags, e, 0);
+    match r {
+        Rule::LagUpper => y == Lag::of_table(c.lags, e).a,
+        Rule::LagLower => y == Lag::of_table(c.lags, e).b,
+        Rule::Reservoir(v) => v.family == Family::Height || y == e,
+        Rule::Total { mirror: _ } => in_set(c.sets, e, y),
     }
-    if r == 2 {
-        return y == lag_event(lags, e, 1);
-    }
-    if r > 14 {
-        return in_set(sets, e, y);
-    }
-    let v = variant(r);
-    let family = v.family;
-    if family < 2 {
-        return y == e;
-    }
-    true
 }
 
-// 14. Do subject, target and fact events exist, are fact kinds 1..4, does the target fit the rule, and is the kind the rule's own, or 0 with value 0?
-pub fn names(list: &[i32], lags: &[i32], sets: &[i32], k: Job, s: Slip) -> bool
-    requires { Fit k lags.now × Grouped k.events sets.now × Stands list.now s }
-    ensures { (j : Call) →
-        Shares k lags.now sets.now j →
-        result ≡ names j (explanation_of list.now s) }
+// 14. The slip with its subject and target, if these and its fact events exist, fact kinds are 1..4, the target fits the rule, and the kind is the rule's own, or 0 with value 0.
+pub fn named<'a>(c: &Call, s: &Slip<'a>) -> Option<Named<'a>>
+    requires { Sits c.now }
+    ensures { Names14 (job_of c.now) s.now result }
 {
     let r = s.rule;
-    let n = k.events;
-    if !subject_there(lags, sets, k, r, s.subject) {
-        return false;
+    let n = c.job.events;
+    if !is_event(s.subject, subjects(c, r)) {
+        return None;
     }
     if !is_event(s.target, n) {
-        return false;
+        return None;
     }
-    if !facts_fit(list, s, n) {
-        return false;
+    if !facts_fit(s.facts, n) {
+        return None;
     }
-    if !target_right(lags, sets, k, r, index(s.subject), index(s.target)) {
-        return false;
+    let subject = index(s.subject);
+    let target = index(s.target);
+    if !target_right(c, r, subject, target) {
+        return None;
     }
-    kind_right(r, s.kind, s.value)
+    if !kind_right(r, s.kind, s.value) {
+        return None;
+    }
+    Some(Named {
+        slip: *s,
+        subject,
+        target,
+    })
 }

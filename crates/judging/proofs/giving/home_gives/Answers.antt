@@ -1,44 +1,34 @@
--- `judging::giving::home_gives` asks question 16 in the cage of e. Assumes nothing.
-use mathlib.Core.Path.{sym, ap, ◌∙◌}
+-- `judging::giving::home_gives` asks question 16 in the cage of the slip's event. Assumes nothing.
+use mathlib.Core.Path.{ap, ◌∙◌}
 use Rattle.tables.specs.Board.{board}
 use Rattle.model.specs.Job.{cage_at}
-use Rattle.model.proofs.Alone.{alone}
-use Rattle.judging.specs.Ready.{call_of}
-use Rattle.judging.proofs.Seating.{none_masked, serves_own, attempts_own, gives_own, gives_setless}
+use Rattle.judging.proofs.Seating.{none_masked, tries_own, gives_home}
 use Rattle.judging.proofs.giving.home_gives.Goals as goal
 
 pub rule_gives-requires : goal.rule_gives-requires
 rule_gives-requires c =
     let a = c.args in
     let p = c.requires in
-    let home = c.cage_at-cage.ensures ∙ ap (cage_at a.cages.now) c.cage_of.ensures in
-    attempts_own p c.cage_at-cage.result home (none_masked a.k a.cages.now a.table.now a.lags.now p.sets p.seated c.if-cages-eq4.true a.e p.event (board a.b.now))
+    let W = board a.b.now.words in
+    let home = c.cage_at.ensures ∙ ap (cage_at a.c.now.cages.now) c.cage_of.ensures in
+    tries_own a.c.now W W a.s.now p c.cage_at.result home (none_masked a.c.now p.seated c.if-c-eq4.true a.s.now.subject p.event W)
 
-pub returns-then-cages-eq4 : goal.returns-then-cages-eq4
-returns-then-cages-eq4 c =
+pub returns-then-c-eq4 : goal.returns-then-c-eq4
+returns-then-c-eq4 c =
     let a = c.args in
     let p = c.requires in
-    let r = c.cage_at-cage.result in
-    let home = c.cage_at-cage.ensures ∙ ap (cage_at a.cages.now) c.cage_of.ensures in
-    let j = call_of a.k a.cages.now a.table.now a.lags.now p.sets in
-    let masks = none_masked a.k a.cages.now a.table.now a.lags.now p.sets p.seated c.if-cages-eq4.true a.e p.event (board a.b.now) in
-    λ gs fs. c.rule_gives.ensures (alone j a.e) (serves_own a.k a.cages.now a.table.now a.lags.now p.sets p.seated a.e p.event r home masks p.kinds) fs
-    ∙ sym (gives_own p r home masks fs)
-    ∙ gives_setless a.k a.cages.now a.table.now a.lags.now p.sets gs (board a.b.now) a.s fs p.rule_low p.rule_high
+    let W = board a.b.now.words in
+    let home = c.cage_at.ensures ∙ ap (cage_at a.c.now.cages.now) c.cage_of.ensures in
+    gives_home a.c.now W W a.s.now p c.cage_at.result home (none_masked a.c.now p.seated c.if-c-eq4.true a.s.now.subject p.event W) c.rule_gives.ensures
 
 pub rule_gives-requires-2 : goal.rule_gives-requires-2
 rule_gives-requires-2 c =
     let a = c.args in
-    let home = c.cage_at-cage.ensures ∙ ap (cage_at a.cages.now) c.cage_of.ensures in
-    attempts_own c.requires c.cage_at-cage.result home c.mask.ensures.is
+    let home = c.cage_at.ensures ∙ ap (cage_at a.c.now.cages.now) c.cage_of.ensures in
+    tries_own a.c.now (board a.b.now.words) (board c.mask.new.s.words) a.s.now c.requires c.cage_at.result home c.mask.ensures.is
 
 pub returns : goal.returns
 returns c =
     let a = c.args in
-    let p = c.requires in
-    let home = c.cage_at-cage.ensures ∙ ap (cage_at a.cages.now) c.cage_of.ensures in
-    let j = call_of a.k a.cages.now a.table.now a.lags.now p.sets in
-    let masks = c.mask.ensures.is in
-    λ gs fs. c.rule_gives-2.ensures (alone j a.e) (serves_own a.k a.cages.now a.table.now a.lags.now p.sets p.seated a.e p.event c.cage_at-cage.result home masks p.kinds) fs
-    ∙ sym (gives_own p c.cage_at-cage.result home masks fs)
-    ∙ gives_setless a.k a.cages.now a.table.now a.lags.now p.sets gs (board a.b.now) a.s fs p.rule_low p.rule_high
+    let home = c.cage_at.ensures ∙ ap (cage_at a.c.now.cages.now) c.cage_of.ensures in
+    gives_home a.c.now (board a.b.now.words) (board c.mask.new.s.words) a.s.now c.requires c.cage_at.result home c.mask.ensures.is c.rule_gives-2.ensures

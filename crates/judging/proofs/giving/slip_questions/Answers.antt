@@ -1,98 +1,84 @@
 -- `judging::giving::slip_questions` asks 14 to 18 in order. Assumes nothing.
-use mathlib.Core.Bool.{not}
-use mathlib.Core.Path.{ap}
-use mathlib.Core.Path.{sym, ◌∙◌}
+use mathlib.Core.Path.{◌≡◌, sym, ◌∙◌}
 use native.Mathlib.Omega.{arith}
-use borrow.Author.Tests.{not-true, not-false}
+use Rattle.std.specs.Prelude.{Some, None}
+use Rattle.std.proofs.lemmas.Result.{err_from_is_err_and}
 use Rattle.integers.proofs.Tests.{true_is}
 use Rattle.model.specs.Reader.{slip_questions}
 use Rattle.model.proofs.Sound.{named}
 use Rattle.slips.specs.Slip.{explanation_of}
-use Rattle.judging.specs.Ready.{call_of}
-use Rattle.judging.proofs.Passing.{narrowed_range, narrowed_kinds, facts_fit, header_signs}
-use Rattle.judging.proofs.Seating.{shares}
+use Rattle.judging.specs.Ready.{job_of}
+use Rattle.judging.proofs.Asking.{said_yes}
+use Rattle.questions.specs.declared.Question.TheVariants.{Names}
+use Rattle.judging.proofs.Passing.{narrowed_range, narrowed_kinds, facts_fit}
 use Rattle.judging.proofs.giving.slip_questions.Goals as goal
 
-pub returns-then-not-names : goal.returns-then-not-names
+pub returns-in_err-s : goal.returns-in_err-s
 unfolding slip_questions
-returns-then-not-names c =
-    let a = c.args in
-    let h = shares a.k a.cages.now a.table.now a.lags.now a.sets.now c.requires.0.seated in
-    rw (sym (c.names.ensures _ h) ∙ not-true _ (ap not c.if-not-names.true))
+returns-in_err-s c =
+    let p = err_from_is_err_and c.from_residual.result c.from_residual.ensures.1 in
+    let none : c.named.result ≡ None = grind arith in
+    let is : c.in_err-s.field-0.0 ≡ Names = grind arith in
+    let no = rw none at c.named.ensures in
+    rw (p.1, p.2, is, no)
 
 pub facts_true-requires : goal.facts_true-requires
 facts_true-requires c =
-    let a = c.args in
-    let h = shares a.k a.cages.now a.table.now a.lags.now a.sets.now c.requires.0.seated in
-    let t = true_is (sym (c.names.ensures _ h) ∙ not-false _ (ap not c.if-not-names.false)) in
-    (c.requires.1, c.requires.0.range.few, facts_fit h a.list.now a.s t)
+    let m = c.in_ok-s.s in
+    let some : c.named.result ≡ Some m = grind arith in
+    let yes = rw some at c.named.ensures in
+    facts_fit c.args.c.now c.requires.seated m (true_is yes.0)
 
-pub returns-then-not-facts_true : goal.returns-then-not-facts_true
+pub returns-in_err-ask : goal.returns-in_err-ask
 unfolding slip_questions
-returns-then-not-facts_true c =
-    let a = c.args in
-    let h = shares a.k a.cages.now a.table.now a.lags.now a.sets.now c.requires.0.seated in
-    rw (sym (c.names.ensures _ h) ∙ not-false _ (ap not c.if-not-names.false), sym c.facts_true.ensures ∙ not-true _ (ap not c.if-not-facts_true.true))
-
-pub index-e-requires : goal.index-e-requires
-index-e-requires c =
-    let a = c.args in
-    let h = shares a.k a.cages.now a.table.now a.lags.now a.sets.now c.requires.0.seated in
-    let t = true_is (sym (c.names.ensures _ h) ∙ not-false _ (ap not c.if-not-names.false)) in
-    (header_signs (call_of a.k a.cages.now a.table.now a.lags.now a.sets.now) (explanation_of a.list.now a.s) t).0
-
-pub index-y-requires : goal.index-y-requires
-index-y-requires c =
-    let a = c.args in
-    let h = shares a.k a.cages.now a.table.now a.lags.now a.sets.now c.requires.0.seated in
-    let t = true_is (sym (c.names.ensures _ h) ∙ not-false _ (ap not c.if-not-names.false)) in
-    (header_signs (call_of a.k a.cages.now a.table.now a.lags.now a.sets.now) (explanation_of a.list.now a.s) t).1
+returns-in_err-ask c =
+    let p = err_from_is_err_and c.from_residual-in_err-ask.result c.from_residual-in_err-ask.ensures.1 in
+    let m = c.in_ok-s.s in
+    let some : c.named.result ≡ Some m = grind arith in
+    let yes = rw some at c.named.ensures in
+    rw (p.1, p.2, ← yes.1, yes.0, ← rw c.facts_true.ensures at c.in_err-ask.ensures)
 
 pub facts_give-requires : goal.facts_give-requires
 facts_give-requires c =
-    let a = c.args in
-    let p = c.requires.0 in
-    let x = explanation_of a.list.now a.s in
-    let h = shares a.k a.cages.now a.table.now a.lags.now a.sets.now p.seated in
-    let t = true_is (sym (c.names.ensures _ h) ∙ not-false _ (ap not c.if-not-names.false)) in
-    let f = true_is (sym c.facts_true.ensures ∙ not-false _ (ap not c.if-not-facts_true.false)) in
-    let kinds = narrowed_kinds x.premises p.inside (λ y l. p.wide_kinds y l ∙ sym (p.kinds y l)) f in (
-      record {
-        seated = p.seated;
-        range = narrowed_range x.premises p.wide_range p.range p.inside f;
-        kinds = λ y l. kinds y l ∙ p.kinds y l;
-        stands = c.requires.1;
-        named = t;
-        subject = c.index-e.ensures;
-        target = c.index-y.ensures;
-      },
-      p.whole,
-    )
+    let p = c.requires in
+    let m = c.in_ok-s.s in
+    let some : c.named.result ≡ Some m = grind arith in
+    let yes = rw some at c.named.ensures in
+    let f = said_yes 15 _ (rw c.facts_true.ensures at c.in_ok-ask.ensures) in
+    let fs = (explanation_of m.slip).premises in
+    let kinds = narrowed_kinds fs p.inside (λ y l. p.wide_kinds y l ∙ sym (p.kinds y l)) f in
+    record {
+      seated = p.seated;
+      range = narrowed_range fs p.wide_range p.range p.inside f;
+      kinds = λ y l. kinds y l ∙ p.kinds y l;
+      named = true_is yes.0;
+    }
 
-pub returns-then-not-facts_give : goal.returns-then-not-facts_give
+pub returns-in_err-ask-2 : goal.returns-in_err-ask-2
 unfolding slip_questions
-returns-then-not-facts_give c =
-    let a = c.args in
-    let h = shares a.k a.cages.now a.table.now a.lags.now a.sets.now c.requires.0.seated in
-    rw (sym (c.names.ensures _ h) ∙ not-false _ (ap not c.if-not-names.false), sym c.facts_true.ensures ∙ not-false _ (ap not c.if-not-facts_true.false), sym c.facts_give.ensures ∙ not-true _ (ap not c.if-not-facts_give.true))
+returns-in_err-ask-2 c =
+    let p = err_from_is_err_and c.from_residual-in_err-ask-2.result c.from_residual-in_err-ask-2.ensures.1 in
+    let m = c.in_ok-s.s in
+    let some : c.named.result ≡ Some m = grind arith in
+    let yes = rw some at c.named.ensures in
+    rw (p.1, p.2, ← yes.1, yes.0, ← rw c.facts_true.ensures at c.in_ok-ask.ensures, ← rw c.facts_give.ensures at c.in_err-ask-2.ensures)
 
 pub does_right-requires : goal.does_right-requires
 does_right-requires c =
-    let a = c.args in
-    let p = c.requires.0 in
-    let x = explanation_of a.list.now a.s in
-    let h = shares a.k a.cages.now a.table.now a.lags.now a.sets.now p.seated in
-    let t = true_is (sym (c.names.ensures _ h) ∙ not-false _ (ap not c.if-not-names.false)) in
-    let o = named (call_of a.k a.cages.now a.table.now a.lags.now a.sets.now) x t in
-    let l = rw (← c.index-y.ensures, h.events_are) at o.target_real in
-    let f = p.range.few in
-    (c.requires.1.rule_low, c.requires.1.rule_high, omega arith, c.index-y.ensures)
+    let p = c.requires in
+    let m = c.in_ok-s.s in
+    let some : c.named.result ≡ Some m = grind arith in
+    let yes = rw some at c.named.ensures in
+    let o = named (job_of c.args.c.now) (explanation_of m.slip) (true_is yes.0) in
+    let l = rw (← m.target_is) at o.target_real in
+    let few = p.seated.sane.few_events in
+    omega arith
 
 pub returns : goal.returns
 unfolding slip_questions
 returns c =
-    let a = c.args in
-    let x = explanation_of a.list.now a.s in
-    let h = shares a.k a.cages.now a.table.now a.lags.now a.sets.now c.requires.0.seated in
-    rw (sym (c.names.ensures _ h) ∙ not-false _ (ap not c.if-not-names.false), sym c.facts_true.ensures ∙ not-false _ (ap not c.if-not-facts_true.false), sym c.facts_give.ensures ∙ not-false _ (ap not c.if-not-facts_give.false))
-    (c.does_right.ensures x.premises)
+    let m = c.in_ok-s.s in
+    let some : c.named.result ≡ Some m = grind arith in
+    let yes = rw some at c.named.ensures in
+    rw (← yes.1, yes.0, ← rw c.facts_true.ensures at c.in_ok-ask.ensures, ← rw c.facts_give.ensures at c.in_ok-ask-2.ensures)
+    (c.does_right.ensures (explanation_of m.slip).premises)

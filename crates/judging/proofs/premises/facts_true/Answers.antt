@@ -1,23 +1,21 @@
-use mathlib.Core.Bool.{not}
-use mathlib.Core.Path.{ap}
-use native.Mathlib.Omega.{arith}
+-- `judging::premises::facts_true` asks fact by fact. Assumes nothing.
+use mathlib.Core.Path.{◌∙◌}
+use borrow.Author.Tests.{tests}
+use Rattle.std.proofs.Common.{rules}
+use Rattle.std.proofs.lemmas.Iterator.Adapters.{serves_from_places}
+use Rattle.std.proofs.lemmas.Iterator.Search.{all_from_yields_List}
 use Rattle.tables.specs.Board.{board}
-use Rattle.judging.proofs.Facts.{true_every, none_left, one_fails, one_holds, named_here, fit_after}
+use Rattle.slips.specs.Slip.{premise_of, premises_in}
+use Rattle.judging.specs.Ready.{true_of}
+use Rattle.judging.proofs.Facts.{yields, all_are_true, named_at}
 use Rattle.judging.proofs.premises.facts_true.Goals as goal
 
-pub fact_true-requires : goal.fact_true-requires
-fact_true-requires c = let a = c.args in named_here a.list.now a.n a.s.facts a.s.count c.loop-i.i c.requires.1 (omega arith) c.loop-i.invariant.1 c.fact_at.ensures
-
-pub returns-then-not-fact_true : goal.returns-then-not-fact_true
-returns-then-not-fact_true c = let a = c.args in one_fails (true_every (board a.b.now)) a.list.now a.s.facts a.s.count c.loop-i.i c.loop-i.invariant.2 (omega arith) c.fact_at.ensures c.fact_true.ensures (ap not c.if-not-fact_true.true)
-
-pub loop-i-preserved : goal.loop-i-preserved
-loop-i-preserved c =
-    let a = c.args in (
-      omega arith,
-      fit_after a.list.now a.n a.s.facts a.s.count c.loop-i.i c.requires.1 (omega arith) c.loop-i.invariant.1,
-      one_holds (true_every (board a.b.now)) a.list.now a.s.facts a.s.count c.loop-i.i c.loop-i.invariant.2 (omega arith) c.fact_at.ensures c.fact_true.ensures (ap not c.if-not-fact_true.false),
-    )
+pub all-requires-clause-callable : goal.all-requires-clause-callable
+all-requires-clause-callable c =
+    let a = c.args in
+    serves_from_places (yields a.facts) (λ x q r. search (rules, tests)) (λ x k l e. let h = named_at (premises_in a.facts.words.now) c.requires k (premise_of x) l e in search (rules, h))
 
 pub returns : goal.returns
-returns c = let a = c.args in none_left (true_every (board a.b.now)) a.list.now a.s.facts a.s.count c.loop-i.i c.loop-i.invariant.2 (omega arith)
+returns c =
+    let a = c.args in
+    all_from_yields_List (true_of (board a.b.now.words)) c.all.new.self _ _ c.all.ensures.ran (yields a.facts) (λ x b q k. search (rules, tests)) ∙ all_are_true (board a.b.now.words) (premises_in a.facts.words.now)
