@@ -13,7 +13,7 @@ use Rattle.integers.specs.Range.{Within}
 use Rattle.integers.proofs.Linear.{ints}
 use Rattle.integers.proofs.Sums.{sum_ext}
 use Rattle.integers.proofs.Tests.{is_true, true_is, and_out, and_in}
-use Rattle.model.specs.Job.{End, t_min, t_max, h_min, h_max, Windows, windows, events, member_count, member_word, member, set_size, in_set, Job as Call}
+use Rattle.model.specs.Job.{End, t_min, t_max, h_min, h_max, Windows, windows, events, member_count, member_word, member, in_set, Job as Call}
 use Rattle.model.specs.Standing.{span}
 use Rattle.model.specs.View.{look}
 use Rattle.model.specs.Rules.{bound, total, rule, total_limit, others, side_finding, subjects, finding, own_end, idle, effect}
@@ -77,9 +77,6 @@ module _ (k : SetJob) where
   module _ {j : Call} (h : Of k j) where
     pub member_is : (i : ℕ) {y : ℕ} → y ≡ event_at k.sets.now k.at i → y ≡ member j k.set i
     member_is i e = rw (h.sets_are, ← k.placed.begins) e
-
-    pub size_is : k.count ≡ set_size j k.set
-    size_is = rw (h.sets_are, ← k.placed.begins) k.placed.size
 
     set_of : SetOf k.sets.now k.at j k.set
     set_of = record { sets_are = h.sets_are; begins = k.placed.begins; sane = rw h.events_are k.placed.sane }

@@ -9,7 +9,7 @@ use Rattle.model.specs.Job.{set_begin, begun, member_count}
 use Rattle.model.proofs.Totals.{few_members}
 use Rattle.sets.specs.Sets.{count_at}
 use Rattle.sets.proofs.Walking.{begin_next}
-use Rattle.members.specs.Placed.{SaneSets, Placed}
+use Rattle.members.specs.Placed.{SaneSets}
 
 -- The place of set g.
 pub record Reached (ws : List ℤ) (at g : ℕ) : Type 0 where
@@ -20,21 +20,13 @@ pub reached_first : (ws : List ℤ) → Reached ws 0 0
 unfolding set_begin
 reached_first ws = record { begins = refl; near = omega arith }
 
-module _ {n : ℕ} {ws : List ℤ} (few : n ≤ 64) (s : SaneSets n ws) {at g : ℕ} (r : Reached ws at g) (there : g < begun ws 17) where
-  pub reached_near : at ≤ 1072
-  reached_near = omega (arith, r.near, s.few)
+module _ {n : ℕ} {ws : List ℤ} (few : n ≤ 64) (s : SaneSets n ws) {at g : ℕ} (r : Reached ws at g) (there : g < begun ws 17) {size : ℕ} (count : size ≡ count_at ws at) where
+  reached_size : size ≤ 64
+  reached_size =
+      let m = few_members (s.set_sane g there) in
+      let e : size ≡ member_count ws g = count ∙ ap (count_at ws) r.begins in
+      omega arith
 
-  module _ {size : ℕ} (count : size ≡ count_at ws at) where
-    pub reached_placed : Placed n ws g at size
-    reached_placed =
-        record { there = there; few = s.few; begins = r.begins; size = count; sane = s.set_sane g there }
-
-    reached_size : size ≤ 64
-    reached_size =
-        let m = few_members (s.set_sane g there) in
-        let e : size ≡ member_count ws g = count ∙ ap (count_at ws) r.begins in
-        omega arith
-
-    pub reached_next : Reached ws (at + (3 + size)) (g + 1)
-    reached_next =
-        record { begins = begin_next ws g r.begins (omega (arith, count)); near = omega (arith, r.near, reached_size) }
+  pub reached_next : Reached ws (at + (3 + size)) (g + 1)
+  reached_next =
+      record { begins = begin_next ws g r.begins (omega (arith, count)); near = omega (arith, r.near, reached_size) }

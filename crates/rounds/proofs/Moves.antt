@@ -91,6 +91,9 @@ leads_nothing f b l = leads_none (λ j q. refl)
 -- ---- in the job at hand
 
 module _ {x y : GName × List ℤ × Job} (e : x ≡ y) where
+  pub lent_is : x.0 ≡ y.0
+  lent_is = ap (λ (x : GName × List ℤ × Job). x.0) e
+
   pub job_is : x.2 ≡ y.2
   job_is = ap (λ (x : GName × List ℤ × Job). x.2) e
 

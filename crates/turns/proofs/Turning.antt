@@ -3,31 +3,32 @@
 use mathlib.Core.Path.{◌≡◌, refl, sym, ap, subst, ◌∙◌}
 use mathlib.Core.Bool.{Bool, true, false, cond}
 use mathlib.Core.List.{List, ◌++◌}
-use Prim.Native.Nat.{ℕ, ◌+◌, ◌*◌, ◌≤◌, ◌<◌}
+use Prim.Native.Nat.{ℕ, ◌+◌, ◌*◌, ◌<◌}
 use native.Mathlib.Omega.{arith}
-use lib.IntN.{ℤ, pos, negsuc, nat_abs}
+use lib.IntN.{ℤ, pos, nat_abs}
 use lib.ListN.{length}
-use lib.Signed.{◌≤ℤ◌}
+use Rattle.std.specs.Borrow.{GName}
 use Rattle.integers.specs.Range.{Within}
-use Rattle.integers.proofs.Linear.{ints}
-use Rattle.model.specs.Job.{End, t_min, t_max, h_min, h_max, Windows, windows, produces, events, sent, cage_at, cage_word, home, cage, cages, Job as Call}
+use Rattle.model.specs.Job.{End, t_min, t_max, h_min, h_max, windows, produces, events, sent, cage_at, cage_word, home, cage, cages, Job as Call}
 use Rattle.model.specs.View.{shown, here}
 use Rattle.model.specs.Standing.{span}
 use Rattle.model.specs.Agenda.{Attempt, each_of, event_attempts, agenda}
 use Rattle.model.specs.Rounds.{State, made}
 use Rattle.model.proofs.Alone.{masked, apart, events_apart, home_word, sent_apart, Masks, Twin, with_table, event_twin, lags_twin, same_table}
-use Rattle.model.proofs.Sweeps.{made_append, made_more}
 use Rattle.tables.specs.Board.{board, table_of}
 use Rattle.tables.specs.Job.{reservoir_of, Holds, Kinds, Serves, Fit}
 use Rattle.tables.specs.declared.Job.{Job}
 use Rattle.tables.proofs.Boarding.{length_table, windows_board, cage_kept}
 use Rattle.cages.specs.Masking.{together, Homed, Masked, Joined}
-use Rattle.rounds.specs.State.{state_of, Held, Grown, Made}
+use Rattle.rounds.specs.Held.{Held}
+use Rattle.rounds.specs.State.{room, state_of, Leads}
 use Rattle.rounds.specs.Sweeps.{lags_attempts, events_attempts}
-use Rattle.rounds.specs.declared.Progress.{Progress}
-use Rattle.members.specs.Members.{Swept, sets_attempts, SaneSets}
-use Rattle.rounds.proofs.Moves.{grown_none, grown_more}
-use Rattle.turns.specs.Turns.{Works, Done}
+use Rattle.rounds.specs.declared.Log.{Log}
+use Rattle.members.specs.Members.{Binds, sets_attempts}
+use Rattle.rounds.proofs.Moves.{leads_on, leads_both, leads_nothing}
+use Rattle.turns.specs.Works.{Works}
+use Rattle.turns.specs.declared.Call.{Call as Hand}
+use Rattle.turns.specs.Turns.{call_of, Done}
 
 -- ---- ranges
 
@@ -55,7 +56,7 @@ produces_either false v v' w w' f g = g
 
 -- ---- the job and the board of one cage
 
-module _ (j : Call) (n : ℕ) (b : List ℤ) (w : Works j n (board b)) where
+module _ (j : Call) (n : ℕ) (b : List ℤ) (w : Works j n b) where
   pub homed : Homed n j.window_table
   homed =
       record {
@@ -127,212 +128,176 @@ shown_true h_min v = refl
 shown_true h_max v = refl
 
 -- Attempts that do the same in the job of one cage, made there on the board s, and b'' with what moved put back.
-module _ (j : Call) (n : ℕ) (b : List ℤ) (w : Works j n (board b)) (own : ℕ → Bool) (k : Job) (c : ℕ) (horizon : k.horizon.0 ≡ j.horizon) (cage-is : reservoir_of k.reservoir ≡ cage j c) (count : k.events ≡ n)
-    (todo : Call → List Attempt) {s buffer s' buffer' : List ℤ} {p q : Progress} (held : Held n b buffer p) (m : (y : ℕ) → y < n → (i : End) → board s y i ≡ masked own (board b) y i)
-    (r : Made k j.lag_table todo s buffer p s' buffer' q) (b'' : List ℤ) (whole : length b'' ≡ 256) (back : (y : ℕ) → y < n → (i : End) → board b'' y i ≡ cond (own y) (board s' y i) (board b y i))
-    (twin : (S U : State) → Twin (events j) own (table_of n j.window_table b) S U → Twin (events j) own (table_of n j.window_table b) (made (length buffer) j (todo j) S) (made (length buffer) (apart j own (cage j c)) (todo (apart j own (cage j c))) U)) where
+module _ (j : Call) (n : ℕ) (b : List ℤ) (w : Works j n b) (held : Held n b) (own : ℕ → Bool) (k : Job) (c : ℕ) (horizon : k.horizon.0 ≡ j.horizon) (cage-is : reservoir_of k.reservoir ≡ cage j c) (count : k.events ≡ n)
+    {s s' : List ℤ} {l l' : Log} (m : (y : ℕ) → y < n → (i : End) → board s y i ≡ masked own (board b) y i)
+    (todo : Call → List Attempt) (r : Leads k.events (Serves k j.lag_table (board s)) (λ i. made (room l) i (todo i)) s l s' l') (held' : Held n s')
+    (b'' : List ℤ) (whole : length b'' ≡ 256) (back : (y : ℕ) → y < n → (i : End) → board b'' y i ≡ cond (own y) (board s' y i) (board b y i)) where
   abbrev J : Call
   J = apart j own (cage j c)
 
   abbrev S : State
-  S = state_of n j.window_table b buffer p
+  S = state_of n j.window_table b l
 
   abbrev U : State
-  U = state_of n J.window_table s buffer p
+  U = state_of n J.window_table s l
 
   abbrev M : State
-  M = made (length buffer) j (todo j) S
+  M = made (room l) j (todo j) S
 
-  run : state_of n J.window_table s' buffer' q ≡ made (length buffer) J (todo J) U
+  run : state_of n J.window_table s' l' ≡ made (room l) J (todo J) U
   run =
-      subst (λ x. state_of x J.window_table s' buffer' q ≡ made (length buffer) J (todo J) (state_of x J.window_table s buffer p)) count
+      subst (λ x. state_of x J.window_table s' l' ≡ made (room l) J (todo J) (state_of x J.window_table s l)) count
       (r.is J (serves_apart j n b w own k c horizon cage-is count s m))
 
-  both : Twin (events j) own (table_of n j.window_table b) M (made (length buffer) J (todo J) U)
-  both =
-      twin S U (record { table = table_of n J.window_table s; is = refl; masking = masks_start j n own w.events_are J.window_table b s m })
-
-  told : state_of n J.window_table s' buffer' q ≡ with_table M both.table
-  told = run ∙ both.is
-
-  same_end_at : (y : ℕ) → y < n → (i : End) → board b'' y i ≡ windows M.table y i
-  same_end_at y l i = back y l i ∙ go (own y) refl
-    where
-      p₁ : y < events j
-      p₁ = rw w.events_are l
-
-      go : (t : Bool) → own y ≡ t → cond t (board s' y i) (board b y i) ≡ windows M.table y i
-      go true h =
-          sym (windows_board n J.window_table s' y i l)
-          ∙ ap (λ (x : State). windows x.table y i) told
-          ∙ both.masking.masks y p₁ i
-          ∙ ap (λ t. shown t i (windows M.table y i)) h
-          ∙ shown_true i (windows M.table y i)
-      go false h = sym (windows_board n j.window_table b y i l) ∙ sym (both.masking.away y p₁ h i)
-
-  table_is : table_of n j.window_table b'' ≡ M.table
-  table_is =
-      same_table n (table_of n j.window_table b'') M.table (length_table n j.window_table b'') (both.masking.whole ∙ ap (λ x. 5 * x) w.events_are)
-      (λ y l i. windows_board n j.window_table b'' y i l ∙ same_end_at y l i)
-      (λ y l. cage_kept n j.window_table b'' y l ∙ sym (both.masking.homes y ∙ cage_kept n j.window_table b y l))
-
   kinds_back : Kinds n (board b'') (board b)
-  kinds_back y l =
-      ap produces (back y l h_max)
+  kinds_back y i =
+      ap produces (back y i h_max)
       ∙ produces_either (own y) (board s' y h_max) (board b y h_max) (board b y h_max) (board b y h_max)
-      (λ h. r.kinds y (rw count l) ∙ ap produces (m y l h_max ∙ ap (λ t. shown t h_max (board b y h_max)) h)) refl
+      (λ h. r.kinds y (rw count i) ∙ ap produces (m y i h_max ∙ ap (λ t. shown t h_max (board b y h_max)) h)) refl
       ∙ ap produces (same_either (own y) (board b y h_max))
     where
       same_either : (t : Bool) (v : ℤ) → cond t v v ≡ v
       same_either true v = refl
       same_either false v = refl
 
-  held_back : Held n b'' buffer' q
+  held_back : Held n b''
   held_back =
-      let h = r.grown.held in
       record {
         whole = whole;
-        ranged = record { few = held.ranged.few; range = λ y l i. rw (back y l i) (either_within (own y) i (board s' y i) (board b y i) (h.ranged.range y (rw count l) i) (held.ranged.range y l i)) };
-        signed = λ y l. rw (back y l h_min, back y l h_max) (produces_either (own y) (board s' y h_min) (board s' y h_max) (board b y h_min) (board b y h_max) (λ t. h.signed y (rw count l)) (held.signed y l));
-        small = h.small;
-        trailer_fits = h.trailer_fits;
-        counted = h.counted;
-        placed = h.placed;
+        ranged = record { few = held.ranged.few; range = λ y p i. rw (back y p i) (either_within (own y) i (board s' y i) (board b y i) (held'.ranged.range y p i) (held.ranged.range y p i)) };
+        signed = λ y p. rw (back y p h_min, back y p h_max) (produces_either (own y) (board s' y h_min) (board s' y h_max) (board b y h_min) (board b y h_max) (λ t. held'.signed y p) (held.signed y p));
       }
 
-  pub done_back : Done j n (todo j) b buffer p b'' buffer' q
-  done_back =
-      let g = r.grown in
-      record {
-        is = ap (λ (x : State). with_table x (table_of n j.window_table b'')) told ∙ ap (with_table M) table_is;
-        kinds = kinds_back;
-        grown = record { held = held_back; same = g.same; after = g.after; longer = g.longer; more = g.more };
-      }
+  module _ (twin : (S U : State) → Twin (events j) own (table_of n j.window_table b) S U → Twin (events j) own (table_of n j.window_table b) (made (room l) j (todo j) S) (made (room l) J (todo J) U)) where
+    both : Twin (events j) own (table_of n j.window_table b) M (made (room l) J (todo J) U)
+    both =
+        twin S U (record { table = table_of n J.window_table s; is = refl; masking = masks_start j n own w.events_are J.window_table b s m })
 
--- ---- all rules at an event
+    told : state_of n J.window_table s' l' ≡ with_table M both.table
+    told = run ∙ both.is
 
-module _ (j : Call) (n : ℕ) (b : List ℤ) (w : Works j n (board b)) (e : ℕ) (l : e < n) where
-  own_real : e < events j
-  own_real = rw w.events_are l
+    same_end_at : (y : ℕ) → y < n → (i : End) → board b'' y i ≡ windows M.table y i
+    same_end_at y p i = back y p i ∙ go (own y) refl
+      where
+        p₁ : y < events j
+        p₁ = rw w.events_are p
 
-  -- Its cage is one of the table's.
-  pub cage_there : {c : ℕ} → c ≡ nat_abs (cage_word j.window_table e) → 4 * c + 4 ≤ length j.cage_table
-  cage_there q = let r = w.sane.cage_real e own_real in omega (arith, q)
+        go : (t : Bool) → own y ≡ t → cond t (board s' y i) (board b y i) ≡ windows M.table y i
+        go true h =
+            sym (windows_board n J.window_table s' y i p)
+            ∙ ap (λ (x : State). windows x.table y i) told
+            ∙ both.masking.masks y p₁ i
+            ∙ ap (λ t. shown t i (windows M.table y i)) h
+            ∙ shown_true i (windows M.table y i)
+        go false h = sym (windows_board n j.window_table b y i p) ∙ sym (both.masking.away y p₁ h i)
 
-  module _ (k : Job) (c : ℕ) (q : c ≡ nat_abs (cage_word j.window_table e)) (told : (k.horizon.0 ≡ j.horizon) × (reservoir_of k.reservoir ≡ cage_at j.cage_table c) × (k.events ≡ n)) where
-    its_cage : reservoir_of k.reservoir ≡ home j e
-    its_cage = told.1 ∙ ap (cage_at j.cage_table) q
+    table_is : table_of n j.window_table b'' ≡ M.table
+    table_is =
+        same_table n (table_of n j.window_table b'') M.table (length_table n j.window_table b'') (both.masking.whole ∙ ap (λ x. 5 * x) w.events_are)
+        (λ y p i. windows_board n j.window_table b'' y i p ∙ same_end_at y p i)
+        (λ y p. cage_kept n j.window_table b'' y p ∙ sym (both.masking.homes y ∙ cage_kept n j.window_table b y p))
 
-    pub event_fits : Fit k j.lag_table
-    event_fits = fit_apart j n b w (here j e) k (nat_abs (cage_word j.window_table e)) told.0 its_cage told.2 (w.sane.cage_real e own_real)
+    is_back : state_of n j.window_table b'' l' ≡ M
+    is_back = ap (λ (x : State). with_table x (table_of n j.window_table b'')) told ∙ ap (with_table M) table_is
 
-    pub event_held : {s buffer : List ℤ} {p : Progress} → Held n b buffer p → Masked n j.window_table e b s → Held k.events s buffer p
-    event_held {s} {buffer} {p} h m =
-        subst (λ x. Held x s buffer p) (sym told.2)
-        (record {
-          whole = m.whole;
-          ranged = record { few = h.ranged.few; range = λ y r i. rw (m.is y r i) (shown_within (together j.window_table e y) i (board b y i) (h.ranged.range y r i)) };
-          signed = λ y r. rw (m.is y r h_min, m.is y r h_max) (produces_shown (together j.window_table e y) (board b y h_min) (board b y h_max) (h.signed y r));
-          small = h.small;
-          trailer_fits = h.trailer_fits;
-          counted = h.counted;
-          placed = h.placed;
-        })
+    leads_back : Leads n (λ i. i ≡ j) (λ i. made (room l) i (todo i)) b l b'' l'
+    leads_back =
+        record {
+          is = λ i e. subst (λ i. state_of n i.window_table b'' l' ≡ made (room l) i (todo i) (state_of n i.window_table b l)) (sym e) is_back;
+          kinds = kinds_back;
+          grown = r.grown;
+        }
 
-    pub event_there : e < k.events
-    event_there = rw told.2 l
+-- ---- a call at hand
 
-    pub event_done : {s buffer s' buffer' b'' : List ℤ} {p q : Progress} → Held n b buffer p → Masked n j.window_table e b s → Made k j.lag_table (λ i. event_attempts i e) s buffer p s' buffer' q → Joined n j.window_table e b s' b'' →
-        Done j n (event_attempts j e) b buffer p b'' buffer' q
-    event_done {s} {buffer} {s'} {buffer'} {b''} h m r back =
-        done_back j n b w (here j e) k (nat_abs (cage_word j.window_table e)) told.0 its_cage told.2 (λ i. event_attempts i e) h m.is r b'' back.whole back.is
-        (event_twin j e own_real (table_of n j.window_table b) (length buffer))
-
--- ---- in turn
-
-pub works_next : {j : Call} {n : ℕ} {W X : Windows} → Works j n W → Kinds n X W → Works j n X
+pub works_next : {j : Call} {n : ℕ} {b b' : List ℤ} → Works j n b → Kinds n (board b') (board b) → Works j n b'
 works_next w a =
     record { sane = w.sane; whole = w.whole; events_are = w.events_are; kinds = λ y l. a y l ∙ w.kinds y l }
 
--- First these attempts, then those.
-pub done_then : {j : Call} {n : ℕ} {todo more all : List Attempt} {b buffer b₁ buffer₁ b₂ buffer₂ : List ℤ} {p p₁ p₂ : Progress} →
-    ((s : State) → made (length buffer) j all s ≡ made (length buffer) j more (made (length buffer) j todo s)) →
-    Done j n todo b buffer p b₁ buffer₁ p₁ → Done j n more b₁ buffer₁ p₁ b₂ buffer₂ p₂ → Done j n all b buffer p b₂ buffer₂ p₂
-done_then {j} {n} {todo} {more} {all} {b} {buffer} {b₁} {buffer₁} {b₂} {buffer₂} {p} {p₁} {p₂} splits d e =
-    record {
-      is = e.is ∙ ap (λ room. made room j more (state_of n j.window_table b₁ buffer₁ p₁)) d.grown.same ∙ ap (made (length buffer) j more) d.is ∙ sym (splits (state_of n j.window_table b buffer p));
-      kinds = λ y l. e.kinds y l ∙ d.kinds y l;
-      grown = grown_more d.grown e.grown;
-    }
+-- ---- all rules at an event
 
-pub done_none : (j : Call) {n : ℕ} {b buffer : List ℤ} {p : Progress} → Held n b buffer p → Done j n (each_of (event_attempts j) 0 0) b buffer p b buffer p
-unfolding each_of made
-done_none j h = record { is = refl; kinds = λ y l. refl; grown = grown_none h }
+module _ (c : Hand) (e : ℕ) (there : e < c.events) where
+  own_real : e < events (call_of c)
+  own_real = rw c.works.events_are there
 
-pub done_more : (j : Call) {n : ℕ} (e : ℕ) {b buffer b₁ buffer₁ b₂ buffer₂ : List ℤ} {p p₁ p₂ : Progress} → Done j n (each_of (event_attempts j) 0 e) b buffer p b₁ buffer₁ p₁ → Done j n (event_attempts j e) b₁ buffer₁ p₁ b₂ buffer₂ p₂ →
-    Done j n (each_of (event_attempts j) 0 (e + 1)) b buffer p b₂ buffer₂ p₂
-done_more j {n} e {b} {buffer} d m = done_then (made_more (length buffer) j (event_attempts j) e) d m
+  module _ (k : Job) (i : ℕ) (q : i ≡ nat_abs (cage_word c.windows.now e)) (told : (k.horizon.0 ≡ c.horizon.0) × (reservoir_of k.reservoir ≡ cage_at c.cages.now i) × (k.events ≡ c.events)) where
+    its_cage : reservoir_of k.reservoir ≡ home (call_of c) e
+    its_cage = told.1 ∙ ap (cage_at c.cages.now) q
 
-pub done_all : (j : Call) {n e : ℕ} {b buffer b₁ buffer₁ : List ℤ} {p p₁ : Progress} → events j ≡ n → e ≡ n → Done j n (each_of (event_attempts j) 0 e) b buffer p b₁ buffer₁ p₁ → Done j n (events_attempts j) b buffer p b₁ buffer₁ p₁
-done_all j {n} {e} {b} {buffer} {b₁} {buffer₁} {p} {p₁} a q d =
-    subst (λ x. Done j n (each_of (event_attempts j) 0 x) b buffer p b₁ buffer₁ p₁) (q ∙ sym a) d
+    pub event_fits : Fit k c.lags.now
+    event_fits = fit_apart (call_of c) c.events c.board.now.words c.works (here (call_of c) e) k (nat_abs (cage_word c.windows.now e)) told.0 its_cage told.2 (c.works.sane.cage_real e own_real)
+
+    pub event_held : {s : List ℤ} → Masked c.events c.windows.now e c.board.now.words s → Held k.events s
+    event_held {s} m =
+        let b = c.board.now.words in
+        let h = c.held in
+        subst (λ x. Held x s) (sym told.2)
+        (record {
+          whole = m.whole;
+          ranged = record { few = h.ranged.few; range = λ y r i. rw (m.is y r i) (shown_within (together c.windows.now e y) i (board b y i) (h.ranged.range y r i)) };
+          signed = λ y r. rw (m.is y r h_min, m.is y r h_max) (produces_shown (together c.windows.now e y) (board b y h_min) (board b y h_max) (h.signed y r));
+        })
+
+    module _ {s s' b'' : List ℤ} {l l' : Log} (m : Masked c.events c.windows.now e c.board.now.words s) (back : Joined c.events c.windows.now e c.board.now.words s' b'') (r : Leads k.events (Serves k c.lags.now (board s)) (λ i. made (room l) i (event_attempts i e)) s l s' l') (held : Held c.events s') where
+      pub event_kept : Held c.events b''
+      event_kept = held_back (call_of c) c.events c.board.now.words c.works c.held (here (call_of c) e) k (nat_abs (cage_word c.windows.now e)) told.0 its_cage told.2 m.is (λ i. event_attempts i e) r held b'' back.whole back.is
+
+      pub event_works : Works (call_of c) c.events b''
+      event_works = works_next c.works (kinds_back (call_of c) c.events c.board.now.words c.works c.held (here (call_of c) e) k (nat_abs (cage_word c.windows.now e)) told.0 its_cage told.2 m.is (λ i. event_attempts i e) r held b'' back.whole back.is)
+
+      pub event_leads : Leads c.events (λ i. i ≡ call_of c) (λ i. made (room l) i (event_attempts i e)) c.board.now.words l b'' l'
+      event_leads =
+          leads_back (call_of c) c.events c.board.now.words c.works c.held (here (call_of c) e) k (nat_abs (cage_word c.windows.now e)) told.0 its_cage told.2 m.is (λ i. event_attempts i e) r held b'' back.whole back.is
+          (event_twin (call_of c) e own_real (table_of c.events c.windows.now c.board.now.words) (room l))
+
+-- ---- lags
+
+module _ (c : Hand) (k : Job) (told : (k.horizon.0 ≡ c.horizon.0) × (reservoir_of k.reservoir ≡ cage_at c.cages.now 0) × (k.events ≡ c.events)) where
+  pub lags_lead : {b' : List ℤ} {l l' : Log} → Held c.events b' → Leads k.events (Serves k c.lags.now (board c.board.now.words)) (λ i. made (room l) i (lags_attempts i)) c.board.now.words l b' l' → Leads c.events (λ i. i ≡ call_of c) (λ i. made (room l) i (lags_attempts i)) c.board.now.words l b' l'
+  lags_lead {b'} {l} held r =
+      leads_back (call_of c) c.events c.board.now.words c.works c.held (λ y. true) k 0 told.0 told.1 told.2 (λ y m i. sym (shown_true i (board c.board.now.words y i))) lags_attempts r held b' held.whole (λ y m i. refl)
+      (lags_twin (call_of c) c.works.sane (table_of c.events c.windows.now c.board.now.words) (room l))
 
 -- ---- sets
 
--- The job's sets are those that its questions let pass.
-pub sets_sane : {j : Call} {n : ℕ} {W : Windows} → Works j n W → SaneSets n j.set_table
-sets_sane w =
-    record { few = w.sane.few_sets; set_sane = λ g l. rw (← w.events_are) (w.sane.set_sane g l) }
+pub sets_lead : (c : Hand) {b' : List ℤ} {l l' : Log} → Leads c.events (Binds c.events c.sets.now) (λ i. made (room l) i (sets_attempts i)) c.board.now.words l b' l' → Leads c.events (λ i. i ≡ call_of c) (λ i. made (room l) i (sets_attempts i)) c.board.now.words l b' l'
+sets_lead c {b'} {l} {l'} r =
+    record {
+      is = λ i e. subst (λ i. state_of c.events i.window_table b' l' ≡ made (room l) i (sets_attempts i) (state_of c.events i.window_table c.board.now.words l)) (sym e) (r.is (call_of c) (record { events_are = c.works.events_are; sets_are = refl }));
+      kinds = r.kinds;
+      grown = r.grown;
+    }
 
-pub sets_done : (j : Call) {n : ℕ} {W : Windows} {b buffer b' buffer' : List ℤ} {p q : Progress} → Works j n W → Swept n j.set_table sets_attempts b buffer p b' buffer' q → Done j n (sets_attempts j) b buffer p b' buffer' q
-sets_done j w s = record { is = s.is j (record { events_are = w.events_are; sets_are = refl }); kinds = s.kinds; grown = s.grown }
+-- ---- in turn
+
+module _ {x y : GName × Call × ℕ} (e : x ≡ y) where
+  pub call_is : x.1 ≡ y.1
+  call_is = ap (λ (x : GName × Call × ℕ). x.1) e
+
+  pub events_are : x.2 ≡ y.2
+  events_are = ap (λ (x : GName × Call × ℕ). x.2) e
+
+pub done_none : (f : ℕ → Call → List Attempt) (c : Hand) (l : Log) → Done (λ j. each_of (λ i. f i j) 0 0) c l c l
+done_none f c l = record { leads = leads_nothing f c.board.now.words l; stays = refl }
+
+module _ {c : Hand} {l : Log} {c₁ : Hand} {l₁ : Log} {c₂ : Hand} {l₂ : Log} where
+  -- First these attempts, then those.
+  pub done_both : (f g : Call → List Attempt) → Done f c l c₁ l₁ → Done g c₁ l₁ c₂ l₂ → Done (λ j. f j ++ g j) c l c₂ l₂
+  done_both f g d e =
+      record {
+        leads = leads_both f g d.leads (λ j q. q ∙ sym (call_is d.stays)) (subst (λ n. Leads n (λ j. j ≡ call_of c₁) (λ j. made (room l₁) j (g j)) c₁.board.now.words l₁ c₂.board.now.words l₂) (events_are d.stays) e.leads);
+        stays = e.stays ∙ d.stays;
+      }
+
+  -- In a loop: those so far, then those of i.
+  pub done_on : (f : ℕ → Call → List Attempt) (i : ℕ) → Done (λ j. each_of (λ i. f i j) 0 i) c l c₁ l₁ → Done (f i) c₁ l₁ c₂ l₂ → Done (λ j. each_of (λ i. f i j) 0 (i + 1)) c l c₂ l₂
+  done_on f i d e =
+      record {
+        leads = leads_on f i d.leads (λ j q. q ∙ sym (call_is d.stays)) (subst (λ n. Leads n (λ j. j ≡ call_of c₁) (λ j. made (room l₁) j (f i j)) c₁.board.now.words l₁ c₂.board.now.words l₂) (events_are d.stays) e.leads);
+        stays = e.stays ∙ d.stays;
+      }
 
 -- A round is its three parts.
-pub done_round : (j : Call) {n : ℕ} {b buffer b₁ buffer₁ b₂ buffer₂ b₃ buffer₃ : List ℤ} {p p₁ p₂ p₃ : Progress} → Done j n (lags_attempts j) b buffer p b₁ buffer₁ p₁ → Done j n (sets_attempts j) b₁ buffer₁ p₁ b₂ buffer₂ p₂ → Done j n (events_attempts j) b₂ buffer₂ p₂ b₃ buffer₃ p₃ → Done j n (agenda j) b buffer p b₃ buffer₃ p₃
+pub done_round : {c : Hand} {l : Log} {c₁ : Hand} {l₁ : Log} {c₂ : Hand} {l₂ : Log} {c₃ : Hand} {l₃ : Log} → Done lags_attempts c l c₁ l₁ → Done sets_attempts c₁ l₁ c₂ l₂ → Done events_attempts c₂ l₂ c₃ l₃ → Done agenda c l c₃ l₃
 unfolding agenda
-done_round j {n} {b} {buffer} {b₁} {buffer₁} d m o =
-    done_then (made_append (length buffer) j (lags_attempts j) (sets_attempts j ++ events_attempts j)) d
-    (done_then (made_append (length buffer₁) j (sets_attempts j) (events_attempts j)) m o)
-
--- ---- lags, and the events of one cage
-
-module _ (j : Call) (n : ℕ) (b : List ℤ) (w : Works j n (board b)) (k : Job) (told : (k.horizon.0 ≡ j.horizon) × (reservoir_of k.reservoir ≡ cage_at j.cage_table 0) × (k.events ≡ n)) where
-  pub first_fits : Fit k j.lag_table
-  first_fits = fit_apart j n b w (λ y. true) k 0 told.0 told.1 told.2 w.sane.some_cage
-
-  pub first_held : {buffer : List ℤ} {p : Progress} → Held n b buffer p → Held k.events b buffer p
-  first_held {buffer} {p} h = subst (λ x. Held x b buffer p) (sym told.2) h
-
-  pub lags_done : {buffer b' buffer' : List ℤ} {p q : Progress} → Held n b buffer p → Made k j.lag_table lags_attempts b buffer p b' buffer' q → Done j n (lags_attempts j) b buffer p b' buffer' q
-  lags_done {buffer} {b'} {buffer'} h r =
-      done_back j n b w (λ y. true) k 0 told.0 told.1 told.2 lags_attempts h (λ y l i. sym (shown_true i (board b y i))) r b' r.grown.held.whole (λ y l i. refl)
-      (lags_twin j w.sane (table_of n j.window_table b) (length buffer))
-
-  module _ (one : length j.cage_table ≡ 4) where
-    zero_word : (z : ℤ) → pos 0 ≤ℤ z → nat_abs z < 1 → z ≡ pos 0
-    zero_word (pos m) a l = ap pos (omega arith)
-    zero_word (negsuc m) a l = absurd (omega ints)
-
-    one_serves : Serves k j.lag_table (board b) j
-    one_serves =
-        let single : cages j ≡ 1 = omega arith in
-        record {
-          holds = record {
-            horizon_is = sym told.0;
-            cages_are = single;
-            reservoir_is = sym told.1;
-            home_is = λ y l. zero_word (cage_word j.window_table y) (w.sane.cage_sign y l) (rw single at (w.sane.cage_real y l));
-            events_are = w.events_are ∙ sym told.2;
-            lags_are = refl;
-          };
-          kinds = λ y l. w.kinds y (rw w.events_are at l);
-        }
-
-    pub events_done : {buffer b' buffer' : List ℤ} {p q : Progress} → Made k j.lag_table events_attempts b buffer p b' buffer' q → Done j n (events_attempts j) b buffer p b' buffer' q
-    events_done {buffer} {b'} {buffer'} {p} {q} r =
-        let is = r.is j one_serves in
-        record {
-          is = subst (λ x. state_of x j.window_table b' buffer' q ≡ made (length buffer) j (events_attempts j) (state_of x j.window_table b buffer p)) told.2 is;
-          kinds = λ y l. r.kinds y (rw told.2 l);
-          grown = subst (λ x. Grown x buffer p b' buffer' q) told.2 r.grown;
-        }
+done_round d m o = done_both lags_attempts (λ j. sets_attempts j ++ events_attempts j) d (done_both sets_attempts events_attempts m o)

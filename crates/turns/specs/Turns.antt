@@ -1,23 +1,23 @@
 -- What is done to a call's state, of a job with any number of cages.
-use Rattle.std.specs.Prelude.{◌≡◌, List, ℕ, ◌*◌, ℤ, length}
-use Rattle.model.specs.Job.{Windows, events, sent, Job as Call}
-use Rattle.model.specs.Standing.{Sane}
+use Rattle.std.specs.Prelude.{◌≡◌, List, ℕ}
+use Rattle.std.specs.Borrow.{GName}
+use Rattle.model.specs.Job.{Job}
 use Rattle.model.specs.Agenda.{Attempt}
 use Rattle.model.specs.Rounds.{made}
-use Rattle.tables.specs.Board.{board}
-use Rattle.tables.specs.Job.{Kinds}
-use Rattle.rounds.specs.State.{state_of, Grown}
-use Rattle.rounds.specs.declared.Progress.{Progress}
+use Rattle.tables.specs.Job.{call}
+use Rattle.rounds.specs.State.{room, Leads}
+use Rattle.rounds.specs.declared.Log.{Log}
+use Rattle.turns.specs.declared.Call.{Call}
 
--- The job j of a call, its own questions passed, has n events, and windows W show which of them are deliveries.
-pub record Works (j : Call) (n : ℕ) (W : Windows) : Type 0 where
-  pub sane : Sane j
-  pub whole : length j.window_table ≡ 5 * n
-  pub events_are : events j ≡ n
-  pub kinds : Kinds n W (sent j)
+-- The call's job.
+abbrev pub call_of : Call → Job
+call_of c = call c.horizon.0 c.cages.now c.windows.now c.lags.now c.sets.now
+
+-- What stays of the call at hand: where its board is, its job, its number of events.
+abbrev pub fixed : Call → GName × Job × ℕ
+fixed c = (c.board.ghost_name, call_of c, c.events)
 
 -- These attempts were made in turn; the room is the buffer's length. Deliveries stay deliveries.
-pub record Done (j : Call) (n : ℕ) (todo : List Attempt) (b buffer : List ℤ) (p : Progress) (b' buffer' : List ℤ) (p' : Progress) : Type 0 where
-  pub is : state_of n j.window_table b' buffer' p' ≡ made (length buffer) j todo (state_of n j.window_table b buffer p)
-  pub kinds : Kinds n (board b') (board b)
-  pub grown : Grown n buffer p b' buffer' p'
+pub record Done (todo : Job → List Attempt) (c : Call) (l : Log) (c' : Call) (l' : Log) : Type 0 where
+  pub leads : Leads c.events (λ j. j ≡ call_of c) (λ j. made (room l) j (todo j)) c.board.now.words l c'.board.now.words l'
+  pub stays : fixed c' ≡ fixed c

@@ -1,0 +1,102 @@
+// The parts of a round.
+ghost use Rattle.std.specs.Prelude.{◌≡◌, ◌+◌, ◌*◌, ◌<◌, ◌≤◌, length};
+ghost use Rattle.model.specs.Job.{cage_at};
+ghost use Rattle.model.specs.Agenda.{event_attempts, agenda};
+ghost use Rattle.tables.specs.Job.{reservoir_of};
+ghost use Rattle.rounds.specs.Sweeps.{lags_attempts, events_attempts};
+ghost use Rattle.turns.specs.Turns.{Done};
+
+use crate::Call;
+use cages::{join, mask};
+use members::sweeps::all_sets;
+use rounds::{CageJob, Log};
+use tables::{Board, Job, cage_at, cage_of};
+
+impl Call<'_> {
+    // Its job of one cage.
+    fn job_of(&self, c: usize) -> Job
+        requires { 4 * c + 4 ≤ length self.now.cages.now }
+        ensures { (result.horizon.0 ≡ self.now.horizon.0)
+            × (reservoir_of result.reservoir ≡ cage_at self.now.cages.now c)
+            × (result.events ≡ self.now.events) }
+    {
+        Job {
+            horizon: self.horizon,
+            reservoir: cage_at(self.cages, c),
+            events: self.events,
+        }
+    }
+
+    // All rules at e, as its cage sees them.
+    fn one_event(&mut self, e: usize, log: &mut Log<'_>)
+        requires { e < self.old.events }
+        ensures { Done (λ j. event_attempts j e) self.old log.old self.new log.new }
+    {
+        let job = self.job_of(cage_of(self.windows, e));
+        let mut s = Board::blank();
+        mask(self.board, self.windows, self.events, e, &mut s);
+        let mut cage = CageJob {
+            board: &mut s,
+            lags: self.lags,
+            job,
+        };
+        cage.event_rules(e, log);
+        join(&s, self.windows, self.events, e, self.board);
+    }
+
+    // All events in order.
+    fn each_event(&mut self, log: &mut Log<'_>)
+        ensures { Done events_attempts self.old log.old self.new log.new }
+    {
+        for e in 0..self.events {
+            self.one_event(e, log);
+        }
+    }
+
+    // Lags read neither cages nor amounts: all of them as in a job of the first cage alone.
+    fn each_lag(&mut self, log: &mut Log<'_>)
+        ensures { Done lags_attempts self.old log.old self.new log.new }
+    {
+        let job = self.job_of(0);
+        let mut cage = CageJob {
+            board: &mut *self.board,
+            lags: self.lags,
+            job,
+        };
+        cage.all_lags(log);
+    }
+
+    // All events of a job of one cage, at once.
+    fn together(&mut self, log: &mut Log<'_>)
+        requires { length self.old.cages.now ≡ 4 }
+        ensures { Done events_attempts self.old log.old self.new log.new }
+    {
+        let job = self.job_of(0);
+        let mut cage = CageJob {
+            board: &mut *self.board,
+            lags: self.lags,
+            job,
+        };
+        cage.all_events(log);
+    }
+
+    // All events in order: of one cage at once, of several each as its cage sees it.
+    fn every_event(&mut self, log: &mut Log<'_>)
+        ensures { Done events_attempts self.old log.old self.new log.new }
+    {
+        if self.cages.len() == 4 {
+            self.together(log);
+            return;
+        }
+        self.each_event(log);
+    }
+
+    // A round: lags in table order, then sets in order, then events in order.
+    pub fn turn(&mut self, log: &mut Log<'_>)
+        ensures { Done agenda self.old log.old self.new log.new }
+    {
+        self.each_lag(log);
+        all_sets(self.board, self.events, self.sets, log);
+        self.every_event(log);
+    }
+}
