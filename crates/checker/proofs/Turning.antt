@@ -1,51 +1,51 @@
 -- One slip read, asked and applied; then all slips in turn.
 -- Assumes nothing.
-use mathlib.Core.Path.{◌≡◌, refl, sym, ap, subst, ◌∙◌}
+use mathlib.Core.Path.{◌≡◌, refl, sym, ap, ◌∙◌}
 use mathlib.Core.Bool.{Bool, true, false}
 use mathlib.Core.List.{List}
-use Prim.Native.Nat.{ℕ, zero, suc, ◌+◌, ◌*◌, ◌<◌, ◌≤◌}
+use Prim.Native.Nat.{ℕ, suc, ◌+◌, ◌*◌, ◌<◌, ◌≤◌}
 use native.Mathlib.Omega.{arith}
 use lib.IntN.{ℤ, pos, nat_abs}
-use lib.ListN.{set, length, length-set}
+use lib.ListN.{set, length}
 use Rattle.integers.specs.Range.{eq_z}
-use Rattle.model.specs.Job.{word, Windows, windows, Job as Call}
-use Rattle.model.specs.Rules.{rule, own_end}
-use Rattle.model.specs.Slips.{Premise, Explanation, end, slip_length, premise_count, slip_at}
+use Rattle.model.specs.Job.{End, word, Windows, windows, events, Job}
+use Rattle.model.specs.Rules.{own_end}
+use Rattle.model.specs.Slips.{Explanation, slip_length, premise_count, slip_at}
 use Rattle.model.specs.Questions.{Check, pass, refuse}
 use Rattle.model.specs.Reader.{slip, cut, whole, reading, slip_questions, is_conflict, applied, read_from}
 use Rattle.model.proofs.Questions.{refusal}
 use Rattle.model.proofs.Accepted.{passed}
 use Rattle.model.proofs.Sound.{named}
-use Rattle.tables.specs.Board.{table_of, Whole as Full}
-use Rattle.tables.specs.declared.Job.{Job}
+use Rattle.tables.specs.Board.{board, table_of}
 use Rattle.tables.proofs.Boarding.{table_set}
-use Rattle.slips.specs.Slip.{headed, explanation_of, reading_of, Placed, Stands}
+use Rattle.rules.specs.Values.{rule_of}
+use Rattle.rules.proofs.Numbering.{rule_number}
+use Rattle.slips.specs.Slip.{explanation_of}
 use Rattle.slips.specs.declared.Slip.{Slip}
-use Rattle.slips.specs.declared.SlipRead.{SlipRead}
-use Rattle.slips.specs.declared.SlipRead.TheVariants.{Whole, Cut}
-use Rattle.judging.specs.Ready.{Shares, numbered}
+use Rattle.judging.specs.Ready.{job_of, ReadyFor}
+use Rattle.judging.specs.declared.Call.{Call}
 use Rattle.judging.proofs.Passing.{header_signs}
 use Rattle.checker.specs.Turns.{Applies, slip_asked}
 
 -- ---- the narrowing made
 
-module _ (n : ℕ) (sent b : List ℤ) (full : Full b) (s : Slip) (fs : List Premise) {t : Bool} (zero-kind : t ≡ eq_z s.kind.0 (pos 0)) where
+module _ (n : ℕ) (sent b : List ℤ) (full : length b ≡ 256) (s : Slip) {t : Bool} (zero-kind : t ≡ eq_z s.kind.0 (pos 0)) where
   abbrev Done : Bool → List ℤ → Type 0
-  Done c b' = (c ≡ is_conflict (headed s fs)) × Full b' × (table_of n sent b' ≡ applied (table_of n sent b) (headed s fs))
+  Done c b' = (c ≡ is_conflict (explanation_of s)) × (table_of n sent b' ≡ applied (table_of n sent b) (explanation_of s))
 
   pub none_made : t ≡ true → Done true b
-  none_made e = let k = sym zero-kind ∙ e in (sym k, full, rw k)
+  none_made e = let k = sym zero-kind ∙ e in (sym k, rw k)
 
-  pub one_made : {b' : List ℤ} (y k : ℕ) → t ≡ false → end k ≡ own_end (rule s.rule) → y ≡ nat_abs s.target.0 → y < n → n ≤ 64 → b' ≡ set b (64 * word (end k) + y) s.value.0 → Done false b'
+  pub one_made : {b' : List ℤ} (y : ℕ) (k : End) → t ≡ false → k ≡ own_end (rule_of s.rule) → y ≡ nat_abs s.target.0 → y < n → n ≤ 64 → b' ≡ set b (64 * word k + y) s.value.0 → Done false b'
   one_made {b'} y k e o q l m g =
       let z = sym zero-kind ∙ e in
-      (sym z, ap length g ∙ length-set b (64 * word (end k) + y) s.value.0 ∙ full, rw z (rw (g, o, ← q) (table_set n sent b full y (own_end (rule s.rule)) s.value.0 l m)))
+      (sym z, rw (z, rule_number (rule_of s.rule)) (rw (g, o, ← q) (table_set n sent b full y (own_end (rule_of s.rule)) s.value.0 l m)))
 
 -- ---- one slip
 
-module _ (j : Call) (wide W : Windows) (list : List ℤ) (stop p left : ℕ) where
+module _ (j : Job) (wide W : Windows) (list : List ℤ) (stop p left : ℕ) where
   -- Not whole: 13. Whole: what questions 14 to 18 come to.
-  asked_cut : cut ≡ reading list stop p → slip_asked j wide W list stop p left ≡ refuse 13 0
+  pub asked_cut : cut ≡ reading list stop p → slip_asked j wide W list stop p left ≡ refuse 13 0
   unfolding reading
   asked_cut e = go (whole list stop p) refl
     where
@@ -62,37 +62,23 @@ module _ (j : Call) (wide W : Windows) (list : List ℤ) (stop p left : ℕ) whe
       go true w = let f : slip x next ≡ slip (slip_at list p) (p + slip_length (premise_count list p)) = rw w at e in let g : x ≡ slip_at list p = cc in (rw (w, g), g, cc)
       go false w = let f : slip x next ≡ cut = rw w at e in let z : ◌≡◌ {A = ℕ} 0 1 = cc in absurd (omega arith)
 
-  module _ (r : SlipRead) (is_read : reading_of list r ≡ reading list stop p) where
-    pub stop_cut : r ≡ Cut → slip_asked j wide W list stop p left ≡ refuse 13 0
-    stop_cut e = asked_cut (rw e at is_read)
-
-    module _ (s : Slip) (next : ℕ) (is_whole : r ≡ Whole s next) where
-      pub slip_there : (slip_questions j wide W (explanation_of list s) left ≡ slip_asked j wide W list stop p left) × (explanation_of list s ≡ slip_at list p) × (next ≡ p + slip_length (premise_count list p))
-      slip_there = asked_slip (rw is_whole at is_read)
-
-      pub stop_no : (q : ℕ) → (q ≡ 0 → ⊥) → numbered q ≡ slip_questions j wide W (explanation_of list s) left → slip_asked j wide W list stop p left ≡ refuse q 0
-      stop_no zero n e = absurd (n refl)
-      stop_no (suc q) n e = sym slip_there.0 ∙ sym e
-
-      pub goes_by : (q : ℕ) → q ≡ 0 → numbered q ≡ slip_questions j wide W (explanation_of list s) left → slip_asked j wide W list stop p left ≡ pass
-      goes_by q n e = sym slip_there.0 ∙ sym e ∙ ap numbered n
-
-pub placed_of : (list : List ℤ) (stop : ℕ) (r : SlipRead) (s : Slip) (next : ℕ) → Placed list stop r → r ≡ Whole s next → Stands list s × (next ≤ stop)
-placed_of list stop r s next p e = subst (Placed list stop) e p
-
-pub passes : {q : ℕ} {k : Check} → q ≡ 0 → numbered q ≡ k → k ≡ pass
-passes {q} f e = sym e ∙ ap numbered f
+  -- The slip there, as it was read.
+  pub slip_there : (s : Slip) {next : ℕ} → slip (explanation_of s) next ≡ reading list stop p →
+      (slip_questions j wide W (explanation_of s) left ≡ slip_asked j wide W list stop p left) × (explanation_of s ≡ slip_at list p) × (next ≡ p + slip_length (premise_count list p))
+  slip_there s e = asked_slip e
 
 -- A slip that passed can be applied.
-pub applies_is : {k : Job} {ws gs : List ℤ} {j : Call} → Shares k ws gs j → k.events ≤ 64 → (wide W : Windows) (list : List ℤ) (s : Slip) (left : ℕ) → Stands list s → slip_questions j wide W (explanation_of list s) left ≡ pass → Applies k.events s
-applies_is {k} {ws} {gs} {j} h few wide W list s left st e =
-    let p = passed j wide W (explanation_of list s) left e in
-    let o = named j (explanation_of list s) p.named in
-    record { few = few; rule_low = st.rule_low; rule_high = st.rule_high; sign = (header_signs j (explanation_of list s) p.named).1; event = rw (← h.events_are) o.target_real }
+pub applies_is : (c : Call) {b : List ℤ} → ReadyFor c b → (s : Slip) (left : ℕ) → pass ≡ slip_questions (job_of c) (board c.wide.now.words) (board b) (explanation_of s) left → Applies c.job.events s
+applies_is c {b} h s left e =
+    let j = job_of c in
+    let p = passed j (board c.wide.now.words) (board b) (explanation_of s) left (sym e) in
+    let o = named j (explanation_of s) p.named in
+    let count : events j ≡ c.job.events = omega (arith, h.seated.long) in
+    record { few = h.range.few; sign = (header_signs j (explanation_of s) p.named).1; event = rw (← count) o.target_real }
 
 -- ---- all slips in turn
 
-module _ (j : Call) (wide : Windows) (list : List ℤ) (stop i p last : ℕ) (c : Bool) (table : List ℤ) (left : ℕ) where
+module _ (j : Job) (wide : Windows) (list : List ℤ) (stop i p last : ℕ) (c : Bool) (table : List ℤ) (left : ℕ) where
   abbrev asked : Check
   asked = slip_questions j wide (windows table) (slip_at list p) left
 

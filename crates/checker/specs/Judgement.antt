@@ -1,32 +1,27 @@
 -- The reader's answer read as document 01's reply.
-use Rattle.std.specs.Prelude.{◌≡◌, Bool, true, false, cond, List, ◌≤◌, T, ℤ, pos, length}
+use Rattle.std.specs.Prelude.{◌≡◌, true, cond, List, ◌≤◌, T, ℤ, pos, length, Result, Ok, Err}
 use Rattle.std.specs.Int.Signed.{le_z}
 use Rattle.model.specs.Rounds.{conflict, still_open}
 use Rattle.model.specs.Questions.{pass, questions}
 use Rattle.model.specs.Planner.{Reply, refused, done, Outcome}
 use Rattle.model.specs.Reader.{counted, marked, ends_right, accepted}
 use Rattle.tables.specs.Job.{call}
+use Rattle.questions.specs.Numbers.{number_of}
+use Rattle.questions.specs.declared.Refusal.{Refusal}
 use Rattle.checker.specs.declared.Tail.{Tail}
 use Rattle.checker.specs.declared.Judgement.{Judgement}
-use Rattle.checker.specs.declared.Judgement.TheVariants.{Open, Conflict, Refused}
+use Rattle.checker.specs.declared.Judgement.TheVariants.{Open, Conflict}
 
 -- Open or conflict; or refused, with number and place.
-abbrev pub reply_of : Judgement → Reply
-reply_of Open = done still_open 0 0 0
-reply_of Conflict = done conflict 0 0 0
-reply_of (Refused r) = refused r.number r.place
+abbrev pub reply_of : Result Judgement Refusal → Reply
+reply_of (Ok Open) = done still_open 0 0 0
+reply_of (Ok Conflict) = done conflict 0 0 0
+reply_of (Err r) = refused (number_of r.question) r.place
 
--- A reply that accepts, a judgement that does.
-abbrev pub takes : Reply → Bool
-takes (refused number place) = false
-takes (done v slips rounds len) = true
-
-abbrev pub accepting : Judgement → Bool
-accepting v = takes (reply_of v)
-
--- Of two tables, the one that a judgement leaves: the narrowed windows if it accepts, else those kept.
-abbrev pub left_by : Judgement → List ℤ → List ℤ → List ℤ
-left_by v narrowed kept = cond (accepting v) narrowed kept
+-- Of two tables, the one that a judgement leaves: the narrowed windows if the list is accepted, else those kept.
+abbrev pub left_by : Result Judgement Refusal → List ℤ → List ℤ → List ℤ
+left_by (Ok v) narrowed kept = narrowed
+left_by (Err r) narrowed kept = kept
 
 -- The reply to a list whose slips were all read.
 abbrev pub closing_reply : List ℤ → Tail → Reply
@@ -45,6 +40,6 @@ pub record Trailed (list : List ℤ) : Type 0 where
   pub sign : T (le_z (pos 0) (counted list))
 
 -- The answer and the window table at exit are what a call leaves.
-pub record Judges (o : Outcome) (table : List ℤ) (v : Judgement) : Type 0 where
+pub record Judges (o : Outcome) (table : List ℤ) (v : Result Judgement Refusal) : Type 0 where
   pub answer : reply_of v ≡ o.reply
   pub windows : table ≡ o.table

@@ -5,32 +5,33 @@ use mathlib.Core.List.{List, ◌++◌, append_assoc}
 use Prim.Native.Nat.{ℕ, zero, suc, ◌+◌, ◌*◌, ◌≤◌}
 use native.Mathlib.Omega.{arith}
 use lib.IntN.{ℤ, pos, nat_abs}
+use Rattle.std.specs.Prelude.{Ok}
 use lib.ListN.{length, take, drop, take-append-drop}
 use lib.Seq.{length-take-le}
 use lib.Signed.{le_z, ◌≤ℤ◌, le_z_yes}
 use Rattle.model.specs.Job.{h_min, h_max, windows, produces, events, Job as Call}
 use Rattle.model.specs.Slips.{trailer}
-use Rattle.model.specs.Rounds.{run, start}
+use Rattle.model.specs.Rounds.{State, run, start}
 use Rattle.model.specs.Questions.{pass, questions, plan_questions}
-use Rattle.model.specs.Planner.{done, plan, limited}
+use Rattle.model.specs.Planner.{plan, limited}
 use Rattle.integers.proofs.Tests.{and_out}
 use Rattle.model.proofs.Questions.{asked, limit_asked}
 use Rattle.model.proofs.Ranges.{end_range}
-use Rattle.tables.specs.Board.{board, table_of, Loaded}
+use Rattle.tables.specs.Board.{table_of, Loaded}
 use Rattle.tables.proofs.Boarding.{windows_board}
 use Rattle.tables.proofs.Holding.{standing_signed}
-use Rattle.questions.specs.Asked.{check_of}
-use Rattle.questions.specs.declared.Check.{Check}
-use Rattle.questions.specs.declared.Check.TheVariants.{Pass, Refuse}
-use Rattle.questions.specs.declared.Refusal.{Refusal}
 use Rattle.slips.specs.Words.{Appended}
 use Rattle.slips.proofs.Wording.{drop_later}
-use Rattle.rounds.specs.State.{Held}
-use Rattle.turns.specs.Turns.{Works}
-use Rattle.propagator.specs.Runs.{fresh, verdict_of, fuel_of, run_of, Ran}
-use Rattle.propagator.specs.Plans.{reply_of, Outcomes}
+use Rattle.rounds.specs.Held.{Held, Roomy}
+use Rattle.rounds.specs.State.{room, state_at, state_of}
+use Rattle.rounds.specs.declared.Log.{Log}
+use Rattle.turns.specs.Works.{Works}
+use Rattle.turns.specs.Turns.{call_of}
+use Rattle.turns.specs.declared.Call.{Call as Hand}
+use Rattle.turns.proofs.Turning.{call_is, events_are}
+use Rattle.propagator.specs.Runs.{verdict_of, fuel_of, now, Ran}
+use Rattle.propagator.specs.Plans.{Outcomes}
 use Rattle.propagator.specs.declared.Answer.{Answer}
-use Rattle.propagator.specs.declared.Answer.TheVariants.{Refused}
 use Rattle.propagator.specs.declared.Ended.{Ended}
 
 -- A limit's rounds are the fuel of the run.
@@ -55,7 +56,7 @@ module _ (j : Call) (limit : ℤ) (buffer : List ℤ) (allowed : plan_questions 
   -- ---- the board at the start
 
   module _ {b : List ℤ} (l : Loaded (events j) j.window_table b) where
-    pub works_start : Works j (events j) (board b)
+    pub works_start : Works j (events j) b
     works_start =
         let a = asked j (length buffer) passes in
         record {
@@ -65,7 +66,7 @@ module _ (j : Call) (limit : ℤ) (buffer : List ℤ) (allowed : plan_questions 
           kinds = λ y h. ap produces (sym (windows_board (events j) j.window_table b y h_max h) ∙ ap (λ (t : List ℤ). windows t y h_max) l.is);
         }
 
-    pub held_start : Held (events j) b buffer fresh
+    pub held_start : Held (events j) b
     held_start =
         let a = asked j (length buffer) passes in
         let range = end_range a.sane a.standing in
@@ -74,50 +75,44 @@ module _ (j : Call) (limit : ℤ) (buffer : List ℤ) (allowed : plan_questions 
           whole = l.whole;
           ranged = record { few = a.sane.few_events; range = λ y h k. rw (← windows_board (events j) j.window_table b y k h, l.is) (range y h k) };
           signed = λ y h. rw (← windows_board (events j) j.window_table b y h_min h, ← windows_board (events j) j.window_table b y h_max h, l.is) (signed y h);
-          small = a.room_high;
-          trailer_fits = a.room_low;
-          counted = omega arith;
-          placed = omega arith;
         }
 
-    -- ---- what the call leaves
+  pub roomy_start : Roomy buffer 0 0 0
+  roomy_start =
+      let a = asked j (length buffer) passes in
+      record { small = a.room_high; trailer_fits = a.room_low; counted = omega arith; placed = omega arith }
 
-    module _ {b' buffer' : List ℤ} {e : Ended} {fuel : ℕ} (r : Ran j (events j) fuel b buffer b' buffer' e) (enough : fuel ≡ fuel_of (nat_abs limit) (length buffer)) where
-      log_length : length (take e.progress.used buffer') ≡ e.progress.used
-      log_length = length-take-le e.progress.used buffer' (omega (arith, r.grown.held.trailer_fits))
+-- ---- what the call leaves
 
-      run_is : run_of (events j) j.window_table b' buffer' e ≡ limited (nat_abs limit) (length buffer) j
-      run_is = r.is ∙ rw (l.is, enough) (limited_is (nat_abs limit) (length buffer) j)
+module _ {c : Hand} {l : Log} (limit : ℤ) (allowed : plan_questions (call_of c) limit (room l) ≡ pass) (loaded : Loaded c.events c.windows.now c.board.now.words) (none : state_at c.windows.now l ≡ start c.windows.now)
+    {c' : Hand} {l' : Log} {e : Ended} {fuel : ℕ} (r : Ran fuel c l c' l' e) (enough : fuel ≡ fuel_of (nat_abs limit) (room l)) where
+  log_length : length (take l'.used l'.buffer.now) ≡ l'.used
+  log_length = length-take-le l'.used l'.buffer.now (omega (arith, l'.roomy.trailer_fits))
 
-      -- With the trailer the list ends as it must, and words after it are the caller's.
-      module _ {buffer'' : List ℤ} {end : ℕ} (t : Appended e.progress.used (trailer e.progress.slips e.progress.last) buffer' buffer'' end) where
-        written_is : buffer'' ≡ take e.progress.used buffer' ++ (trailer e.progress.slips e.progress.last ++ drop (length (take e.progress.used buffer') + 3) buffer)
-        written_is =
-            let used = e.progress.used in
-            let words = trailer e.progress.slips e.progress.last in
-            let after : drop (used + 3) buffer' ≡ drop (used + 3) buffer = drop_later buffer' buffer used (used + 3) (omega arith) r.grown.after in
-            let kept : drop end buffer'' ≡ drop (used + 3) buffer = t.rest ∙ rw t.place after in
-            sym (take-append-drop end buffer'') ∙ rw (t.is, kept, log_length) (append_assoc (take used buffer') words (drop (used + 3) buffer))
+  run_is : record { verdict = verdict_of e.verdict; rounds = e.rounds; state = now c' l' } ≡ limited (nat_abs limit) (room l) (call_of c)
+  run_is = r.is ∙ rw (loaded.is, none, enough) (limited_is (nat_abs limit) (room l) (call_of c))
 
-        pub outcome : {table'' : List ℤ} {a : Answer} → table'' ≡ table_of (events j) j.window_table b' → reply_of a ≡ done (verdict_of e.verdict) e.progress.slips e.rounds end → Outcomes (plan j limit buffer) table'' buffer'' a
-        unfolding plan
-        outcome q s =
-            rw (plan, allowed, ← run_is)
-            (record {
-              answer = rw (log_length, ← t.place) s;
-              windows = q;
-              slips = written_is;
-            })
+  -- With the trailer the list ends as it must, and words after it are the caller's.
+  module _ {words b buffer : List ℤ} {end : ℕ} (same : l'.buffer.now ≡ words) (same_board : c'.board.now.words ≡ b) (appended : Appended l'.used (trailer l'.slips l'.last) words buffer end) where
+    t : Appended l'.used (trailer l'.slips l'.last) l'.buffer.now buffer end
+    t = rw same appended
 
--- ---- the planner
+    written_is : buffer ≡ take l'.used l'.buffer.now ++ (trailer l'.slips l'.last ++ drop (length (take l'.used l'.buffer.now) + 3) l.buffer.now)
+    written_is =
+        let used = l'.used in
+        let words = trailer l'.slips l'.last in
+        let after : drop (used + 3) l'.buffer.now ≡ drop (used + 3) l.buffer.now = drop_later l'.buffer.now l.buffer.now used (used + 3) (omega arith) r.grown.after in
+        let kept : drop end buffer ≡ drop (used + 3) l.buffer.now = t.rest ∙ rw t.place after in
+        sym (take-append-drop end buffer) ∙ rw (t.is, kept, log_length) (append_assoc (take used l'.buffer.now) words (drop (used + 3) l.buffer.now))
 
--- A call, and what its questions came to.
-module _ (j : Call) (limit : ℤ) (buffer : List ℤ) {x : Check} (e : check_of x ≡ plan_questions j limit (length buffer)) where
-  pub plan_refused : {r : Refusal} {a : Answer} {table' : List ℤ} → x ≡ Refuse r → (a ≡ Refused r) × (table' ≡ j.window_table) → Outcomes (plan j limit buffer) table' buffer a
-  unfolding plan
-  plan_refused f told =
-      let g = sym e ∙ ap check_of f in
-      rw (plan, g) (record { answer = ap reply_of told.0; windows = told.1; slips = refl })
-
-  pub plan_passes : x ≡ Pass → plan_questions j limit (length buffer) ≡ pass
-  plan_passes f = sym e ∙ ap check_of f
+    pub outcome : {table : List ℤ} {a : Answer} → table ≡ table_of c.events c.windows.now b → a ≡ record { verdict = e.verdict; slips = l'.slips; rounds = e.rounds; length = end }
+        → Outcomes (plan (call_of c) limit l.buffer.now) table buffer (Ok a)
+    unfolding plan
+    outcome q s =
+        let stays : state_of c'.events c'.windows.now c'.board.now.words l' ≡ state_of c.events c.windows.now c'.board.now.words l' = rw (events_are r.stays, ap (λ (j : Call). j.window_table) (call_is r.stays)) refl in
+        rw (plan, allowed, ← run_is)
+        (record {
+          answer = rw (s, log_length, ← t.place);
+          windows = q ∙ rw (← same_board) (ap (λ (x : State). x.table) (sym stays));
+          slips = written_is;
+        })

@@ -1,40 +1,22 @@
 // The whole call: its questions, the run on a board, the list's trailer and the window table written back.
 ghost use Rattle.std.specs.Prelude.{◌≡◌, length};
 ghost use Rattle.model.specs.Questions.{pass, plan_questions};
-ghost use Rattle.model.specs.Planner.{done, plan};
+ghost use Rattle.model.specs.Planner.{plan};
 ghost use Rattle.tables.specs.Job.{call};
-ghost use Rattle.propagator.specs.Runs.{verdict_of};
 ghost use Rattle.propagator.specs.Plans.{reply_of, Outcomes};
-ghost use Rattle.propagator.specs.declared.Answer.TheVariants.{Refused};
 
+use crate::Answer;
 use crate::runs::{fuel, run};
-use crate::{Answer, Counts, Ended, Verdict};
+use questions::Refusal;
 use questions::asked::plan_questions;
-use questions::{Check, Refusal};
-use slips::appending::append_trailer;
-use tables::{Time, load, unload};
-
-// The answer of a run that has ended, with the list's length.
-pub fn answer(e: Ended, length: usize) -> Answer
-    ensures { reply_of result ≡ done (verdict_of e.verdict) e.progress.slips e.rounds length }
-{
-    let p = e.progress;
-    let counts = Counts {
-        slips: p.slips,
-        rounds: e.rounds,
-        length: length,
-    };
-    let v = e.verdict;
-    match v {
-        Verdict::Settled => Answer::Settled(counts),
-        Verdict::Conflict => Answer::Conflict(counts),
-        Verdict::Stopped => Answer::Stopped(counts),
-    }
-}
+use rounds::{Log, Status};
+use slips::writer::Writer;
+use tables::{Board, Time};
+use turns::Call;
 
 // The run of a call whose questions passed, with both lent tables written.
 fn planned(
-    h: Time,
+    horizon: Time,
     cages: &[i32],
     table: &mut [i32],
     lags: &[i32],
@@ -42,32 +24,50 @@ fn planned(
     limit: i32,
     buffer: &mut [i32],
 ) -> Answer
-    requires { plan_questions (call h.0 cages.now table.old lags.now sets.now) limit (length buffer.old) ≡ pass }
+    requires { plan_questions (call horizon.0 cages.now table.old lags.now sets.now) limit (length buffer.old) ≡ pass }
     ensures { Outcomes
-        (plan (call h.0 cages.now table.old lags.now sets.now) limit buffer.old)
-        table.new buffer.new result }
+        (plan (call horizon.0 cages.now table.old lags.now sets.now) limit buffer.old)
+        table.new buffer.new (Ok result) }
 {
-    let n = table.len() / 5;
-    let mut b: [i32; 256] = [0; 256];
-    load(table, n, &mut b);
+    let events = table.len() / 5;
+    let mut board = Board::blank();
+    board.load(table, events);
     let most = fuel(limit, buffer.len());
-    let e = run(&mut b, h, n, cages, table, lags, sets, most, buffer);
-    let p = e.progress;
-    let used = p.used;
-    let length = append_trailer(buffer, used, p.slips, p.last);
-    unload(&b, n, table);
-    answer(e, length)
-}
-
-// A call that a question stops: no word of its window table changes.
-fn refused(r: Refusal, table: &mut [i32]) -> Answer
-    ensures { (result ≡ Refused r) × (table.new ≡ table.old) }
-{
-    Answer::Refused(r)
+    let mut call = Call {
+        board: &mut board,
+        events,
+        horizon,
+        cages,
+        windows: &*table,
+        lags,
+        sets,
+    };
+    let mut log = Log {
+        buffer: &mut *buffer,
+        used: 0,
+        slips: 0,
+        last: 0,
+        status: Status::Running,
+    };
+    let ended = run(&mut call, &mut log, most);
+    let (used, slips, last) = (log.used, log.slips, log.last);
+    let mut list = Writer {
+        words: buffer,
+        at: used,
+    };
+    list.append_trailer(slips, last);
+    board.unload(events, table);
+    Answer {
+        verdict: ended.verdict,
+        slips,
+        rounds: ended.rounds,
+        length: list.at,
+    }
 }
 
 // The planner with a round limit, 0 for none: the reply, and every word of the window table and the slip buffer, as the papers say. A refusal changes no lent word.
 // It rules out a planner that writes no slip (no_slip) and one that answers conflict always (conflict_always).
+#[tactic(auto, unfolding(model::specs::Planner::plan))]
 pub fn plan(
     h: i32,
     cages: &[i32],
@@ -76,15 +76,12 @@ pub fn plan(
     sets: &[i32],
     limit: i32,
     buffer: &mut [i32],
-) -> Answer
+) -> Result<Answer, Refusal>
     ensures answer { reply_of result ≡ (plan (call h cages.now table.old lags.now sets.now) limit buffer.old).reply }
     ensures windows { table.new ≡ (plan (call h cages.now table.old lags.now sets.now) limit buffer.old).table }
     ensures slips { buffer.new ≡ (plan (call h cages.now table.old lags.now sets.now) limit buffer.old).buffer }
 {
     let horizon = Time(h);
-    let check = plan_questions(horizon, cages, table, lags, sets, limit, buffer.len());
-    match check {
-        Check::Refuse(r) => refused(r, table),
-        Check::Pass => planned(horizon, cages, table, lags, sets, limit, buffer),
-    }
+    plan_questions(horizon, cages, table, lags, sets, limit, buffer.len())?;
+    Ok(planned(horizon, cages, table, lags, sets, limit, buffer))
 }

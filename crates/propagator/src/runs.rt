@@ -1,38 +1,21 @@
 // Rounds until settled, conflict or stopped, for want of room or of rounds.
 ghost use Rattle.std.specs.Prelude.{◌≡◌, pos, nat_abs, ◌≤ℤ◌};
-ghost use Rattle.tables.specs.Board.{board};
-ghost use Rattle.tables.specs.Job.{call};
-ghost use Rattle.rounds.specs.State.{Held};
-ghost use Rattle.turns.specs.Turns.{Works};
-ghost use Rattle.propagator.specs.Runs.{fresh, Tested, fuel_of, Ran};
+ghost use Rattle.std.specs.Option.{option_map};
+ghost use Rattle.rounds.specs.State.{status_of};
+ghost use Rattle.propagator.specs.Runs.{verdict_of, ending_of, fuel_of, Ran};
 
 use crate::{Ended, Verdict};
-use rounds::attempts::is_running;
-use rounds::{Progress, Status};
-use tables::Time;
-use turns::turn;
+use rounds::{Log, Status};
+use turns::Call;
 
-// No slip yet.
-pub fn start() -> Progress
-    ensures { result ≡ fresh }
+// How a run ends after a round that leaves this status and was idle, which is to write no slip, or not; if it does.
+fn ending(status: Status, idle: bool) -> Option<Verdict>
+    ensures { option_map verdict_of result ≡ ending_of (status_of status) idle }
 {
-    Progress {
-        used: 0,
-        slips: 0,
-        last: 0,
-        status: Status::Running,
-    }
-}
-
-// The verdict of a call that has ended.
-fn verdict(p: Progress) -> Verdict
-    ensures { Tested p result }
-{
-    let s = p.status;
-    match s {
-        Status::Running => Verdict::Settled,
-        Status::Conflict => Verdict::Conflict,
-        Status::Stopped => Verdict::Stopped,
+    match status {
+        Status::Conflict => Some(Verdict::Conflict),
+        Status::Stopped => Some(Verdict::Stopped),
+        Status::Running => idle.then_some(Verdict::Settled),
     }
 }
 
@@ -45,46 +28,19 @@ pub fn fuel(limit: i32, room: usize) -> usize
     if rounds == 0 { room } else { rounds }
 }
 
-// Rounds from the start until one writes no slip, or a conflict, the room or the fuel, a number of rounds, ends the call.
-pub fn run(
-    b: &mut [i32; 256],
-    h: Time,
-    n: usize,
-    cages: &[i32],
-    table: &[i32],
-    lags: &[i32],
-    sets: &[i32],
-    fuel: usize,
-    buffer: &mut [i32],
-) -> Ended
-    requires { Works (call h.0 cages.now table.now lags.now sets.now) n (board b.old) × Held n b.old buffer.old fresh }
-    ensures { Ran (call h.0 cages.now table.now lags.now sets.now) n fuel
-        b.old buffer.old b.new buffer.new result }
+// Rounds until one writes no slip, or a conflict, the room or the fuel, a number of rounds, ends the call.
+pub fn run(call: &mut Call<'_>, log: &mut Log<'_>, fuel: usize) -> Ended
+    ensures { Ran fuel call.old log.old call.new log.new result }
 {
-    let mut p = start();
-    let mut rounds: usize = 0;
-    while rounds < fuel {
-        let q = turn(b, h, n, cages, table, lags, sets, buffer, p);
-        rounds += 1;
-        if !is_running(q) {
-            return Ended {
-                verdict: verdict(q),
-                rounds: rounds,
-                progress: q,
-            };
+    for rounds in 1..=fuel {
+        let slips = log.slips;
+        call.turn(log);
+        if let Some(verdict) = ending(log.status, log.slips == slips) {
+            return Ended { verdict, rounds };
         }
-        if q.slips == p.slips {
-            return Ended {
-                verdict: Verdict::Settled,
-                rounds: rounds,
-                progress: q,
-            };
-        }
-        p = q;
     }
     Ended {
         verdict: Verdict::Stopped,
-        rounds: rounds,
-        progress: p,
+        rounds: fuel,
     }
 }

@@ -271,6 +271,9 @@ sets_lead c {b'} {l} {l'} r =
 -- ---- in turn
 
 module _ {x y : GName × Call × ℕ} (e : x ≡ y) where
+  pub lent_is : x.0 ≡ y.0
+  lent_is = ap (λ (x : GName × Call × ℕ). x.0) e
+
   pub call_is : x.1 ≡ y.1
   call_is = ap (λ (x : GName × Call × ℕ). x.1) e
 

@@ -4,27 +4,18 @@ use native.Mathlib.Omega.{arith}
 use Rattle.checker.proofs.Judging.{some_cage, few, whole_events, trailer_right, called}
 use Rattle.checker.proofs.judge.Goals as goal
 
-pub cage_at-first-requires : goal.cage_at-first-requires
-cage_at-first-requires c =
-    let a = c.args in
-    omega (arith, some_cage a.h.0 a.cages.now a.table.now a.lags.now a.sets.now a.list.now c.requires)
+pub cage_at-requires : goal.cage_at-requires
+cage_at-requires c = omega (arith, some_cage c.requires)
 
 pub load-requires : goal.load-requires
-load-requires c =
-    let a = c.args in
-    (few a.h.0 a.cages.now a.table.now a.lags.now a.sets.now a.list.now c.requires, whole_events a.h.0 a.cages.now a.table.now a.lags.now a.sets.now a.list.now c.requires, refl)
+load-requires c = (few c.requires, whole_events c.requires)
 
 pub widen-requires : goal.widen-requires
-widen-requires c =
-    let a = c.args in
-    (few a.h.0 a.cages.now a.table.now a.lags.now a.sets.now a.list.now c.requires, refl)
+widen-requires c = few c.requires
 
-pub judge_slips-v-requires : goal.judge_slips-v-requires
-judge_slips-v-requires c =
-    let a = c.args in
-    (called a.h.0 a.cages.now a.table.now a.lags.now a.sets.now a.list.now c.requires _ c.load.new.b c.widen.new.wide refl c.cage_at-first.ensures refl c.load.ensures c.widen.ensures, trailer_right a.h.0 a.cages.now a.table.now a.lags.now a.sets.now a.list.now c.requires)
+pub judge_slips-requires : goal.judge_slips-requires
+judge_slips-requires c =
+    (called c.requires refl refl refl refl refl c.cage_at.ensures refl c.load.ensures c.widen.ensures, trailer_right c.requires)
 
-pub leave-requires : goal.leave-requires
-leave-requires c =
-    let a = c.args in
-    (few a.h.0 a.cages.now a.table.now a.lags.now a.sets.now a.list.now c.requires, whole_events a.h.0 a.cages.now a.table.now a.lags.now a.sets.now a.list.now c.requires)
+pub unload-requires : goal.unload-requires
+unload-requires c = (few c.requires, whole_events c.requires)

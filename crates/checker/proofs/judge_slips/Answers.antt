@@ -1,13 +1,15 @@
 -- `checker::judge_slips` judges the list by what reading its slips leaves. Assumes nothing.
+use Rattle.std.proofs.lemmas.Result.{err_from_is_err_and}
 use Rattle.checker.proofs.Judging.{judges_cut, judges_all}
 use Rattle.checker.proofs.judge_slips.Goals as goal
 
-pub returns-in-Refused : goal.returns-in-Refused
-returns-in-Refused c =
+pub returns-in_err-tail : goal.returns-in_err-tail
+returns-in_err-tail c =
     let a = c.args in
-    judges_cut a.k a.cages.now a.table.now a.lags.now a.sets.now a.list.now c.read_slips-read.new.b (rw (c.index-count.ensures, c.trailer_of-trailer.ensures.slips_are) at c.read_slips-read.ensures) c.in-Refused.r c.in-Refused.is
+    let p = err_from_is_err_and c.from_residual.result c.from_residual.ensures.1 in
+    rw (p.1, p.2) (judges_cut a.c.now a.list.now c.read_slips.new.b.words (rw (c.index-count.ensures, c.trailer_of.ensures.slips_are) at c.in_err-tail.ensures))
 
-pub returns-in-All : goal.returns-in-All
-returns-in-All c =
+pub returns : goal.returns
+returns c =
     let a = c.args in
-    judges_all a.k a.cages.now a.table.now a.lags.now a.sets.now a.list.now c.read_slips-read.new.b (rw (c.index-count.ensures, c.trailer_of-trailer.ensures.slips_are) at c.read_slips-read.ensures) c.in-All.tail c.in-All.is c.closing.ensures
+    judges_all a.c.now a.list.now c.read_slips.new.b.words (rw (c.index-count.ensures, c.trailer_of.ensures.slips_are) at c.in_ok-tail.ensures) c.closing.ensures

@@ -5,5 +5,5 @@ use Rattle.checker.proofs.turns.apply.Goals as goal
 pub returns : goal.returns
 returns c =
     let a = c.args in
-    let q = c.requires.0 in
-    λ sent fs. one_made a.n sent a.b.now c.requires.1 a.s fs c.word_is.ensures c.index.result c.own_kind.result c.if-word_is.false c.own_kind.ensures.1 c.index.ensures (rw c.index.ensures q.event) q.few c.set_end.ensures
+    let q = c.requires in
+    λ sent. one_made a.n sent a.b.now.words a.b.now.whole a.s.now c.word_is.ensures c.index.result _ c.if-word_is.false c.own_end.ensures c.index.ensures (rw c.index.ensures q.event) q.few c.set_end.ensures

@@ -1,37 +1,30 @@
-use Prim.Native.Nat.{◌-◌}
-use native.Mathlib.Omega.{arith}
-use Rattle.tables.specs.Board.{board}
-use Rattle.judging.specs.Ready.{call_of}
-use Rattle.checker.proofs.Looping.{ready, refuses, goes_on, finishes, stepped_as}
+use Rattle.std.proofs.Common.{◌≡◌, arith, rules}
+use Rattle.std.proofs.lemmas.Result.{err_from_is_err_and}
+use Rattle.checker.proofs.Looping.{begins, ready, refuses, goes_on, finishes, err_mapped, ok_mapped}
 use Rattle.checker.proofs.turns.read_slips.Goals as goal
 
-pub take_slip-step-requires : goal.take_slip-step-requires
-take_slip-step-requires c =
-    let a = c.args in
-    let l = c.loop-i.invariant in
-    (ready a.k a.cages.now a.table.now a.lags.now a.sets.now a.wide.now a.b.now a.list.now a.stop a.count c.requires.0 c.loop-i.b c.loop-i.i c.loop-i.p c.loop-i.last c.loop-i.conflict c.loop-i.invariant, l.whole, l.before_stop, c.requires.1)
+pub loop-i-init : goal.loop-i-init
+loop-i-init c = begins c.requires.0
 
-pub returns-in-No : goal.returns-in-No
-returns-in-No c =
-    let l = c.loop-i in
-    let a = c.args in
-    let t = c.take_slip-step in
-    let j = call_of a.k a.cages.now a.table.now a.lags.now a.sets.now in
-    refuses a.k a.cages.now a.table.now a.lags.now a.sets.now a.wide.now a.b.now a.list.now a.stop a.count c.requires.0 l.b l.i l.p l.last l.conflict l.invariant t.new.b c.in-No.number (omega arith)
-    (stepped_as a.k.events j (board a.wide.now) a.list.now a.stop l.p (a.count - l.i - 1) l.b t.new.b c.in-No.is
-    t.ensures)
+pub take_slip-requires : goal.take_slip-requires
+take_slip-requires c =
+    let l = c.loop-i.invariant in
+    (ready c.requires.0 l, l.before_stop, c.requires.1)
+
+pub returns-in_err-tail : goal.returns-in_err-tail
+returns-in_err-tail c =
+    let p = err_from_is_err_and c.from_residual.result c.from_residual.ensures.1 in
+    let m = err_mapped _ c.map_err.result c.take_slip.result c.map_err.ensures.cases c.in_err-tail.was in
+    let q = m.2 in
+    let w : c.in_err-tail.field-0.0 ≡ record { question = m.0; place = c.loop-i.i-counter } = search rules in
+    rw (p.1, p.2, w) (refuses c.requires.0 c.loop-i.invariant m.0 (omega arith) (rw m.1 at c.take_slip.ensures))
 
 pub loop-i-preserved : goal.loop-i-preserved
 loop-i-preserved c =
-    let l = c.loop-i in
-    let a = c.args in
-    let t = c.take_slip-step in
-    let j = call_of a.k a.cages.now a.table.now a.lags.now a.sets.now in
-    goes_on a.k a.cages.now a.table.now a.lags.now a.sets.now a.wide.now a.b.now a.list.now a.stop a.count c.requires.0 l.b l.i l.p l.last l.conflict l.invariant t.new.b c.in-On.next c.in-On.clash (omega arith)
-    (stepped_as a.k.events j (board a.wide.now) a.list.now a.stop l.p (a.count - l.i - 1) l.b t.new.b c.in-On.is
-    t.ensures)
+    let e = ok_mapped _ c.map_err.result c.take_slip.result c.map_err.ensures.cases c.in_ok-tail.was in
+    goes_on c.requires.0 c.loop-i.invariant (omega arith) (rw e at c.take_slip.ensures)
 
 pub returns : goal.returns
 returns c =
-    let a = c.args in
-    (finishes a.k a.cages.now a.table.now a.lags.now a.sets.now a.wide.now a.b.now a.list.now a.stop a.count c.requires.0 c.loop-i.b c.loop-i.i c.loop-i.p c.loop-i.last c.loop-i.conflict c.loop-i.invariant (omega arith), c.loop-i.invariant.whole, c.loop-i.invariant.last_in)
+    let l = c.loop-i.invariant in
+    (finishes c.requires.0 l (omega arith), l.last_in)

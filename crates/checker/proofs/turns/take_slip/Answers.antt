@@ -1,40 +1,48 @@
 -- `checker::turns::take_slip` reads the slip at p, asks it and makes its narrowing. Assumes nothing.
-use mathlib.Core.Path.{◌∙◌, ap}
-use Rattle.tables.specs.Board.{board, table_of}
+use Rattle.std.proofs.Common.{◌≡◌, refl, sym, ap, ◌∙◌, arith, None, Some}
+use Rattle.std.proofs.lemmas.Result.{err_from_is_err_and}
 use Rattle.model.specs.Reader.{is_conflict, applied}
-use Rattle.slips.specs.Slip.{explanation_of}
-use Rattle.judging.specs.Ready.{call_of}
-use Rattle.judging.proofs.Seating.{shares}
-use Rattle.checker.proofs.Turning.{stop_cut, stop_no, goes_by, slip_there, placed_of, passes, applies_is}
+use Rattle.tables.specs.Board.{board, table_of}
+use Rattle.judging.specs.Ready.{job_of}
+use Rattle.questions.specs.declared.Question.TheVariants.{Slip}
+use Rattle.checker.proofs.Turning.{asked_cut, slip_there, applies_is}
 use Rattle.checker.proofs.turns.take_slip.Goals as goal
 
-pub returns-in_default : goal.returns-in_default
-returns-in_default c =
+pub returns-in_err-slip : goal.returns-in_err-slip
+returns-in_err-slip c =
     let a = c.args in
-    stop_cut (call_of a.k a.cages.now a.table.now a.lags.now a.sets.now) (board a.wide.now) (board a.b.now) a.list.now a.stop a.p a.left c.read_slip-read.result c.read_slip-read.ensures.0 c.in_default.is
+    let f : c.read_slip.result ≡ None = grind arith in
+    let q : c.in_err-slip.field-0.0 ≡ Slip = grind arith in
+    let p = err_from_is_err_and c.from_residual.result c.from_residual.ensures.1 in
+    rw (p.1, p.2, q) (asked_cut (job_of a.c.now) (board a.c.now.wide.now.words) (board a.b.now.words) a.list.now a.stop a.p a.left (rw f at c.read_slip.ensures.0))
 
-pub returns-then-number-ne0 : goal.returns-then-number-ne0
-returns-then-number-ne0 c =
+pub returns-in_err-slip_questions : goal.returns-in_err-slip_questions
+returns-in_err-slip_questions c =
     let a = c.args in
-    stop_no (call_of a.k a.cages.now a.table.now a.lags.now a.sets.now) (board a.wide.now) (board a.b.now) a.list.now a.stop a.p a.left c.read_slip-read.result c.read_slip-read.ensures.0 c.in-Whole.slip c.in-Whole.next c.in-Whole.is c.slip_questions-number.result c.if-number-ne0.true c.slip_questions-number.ensures
+    let f : c.read_slip.result ≡ Some (c.in_ok-slip.slip, c.in_ok-slip.next) = grind arith in
+    let p = err_from_is_err_and c.from_residual-in_err-slip_questions.result c.from_residual-in_err-slip_questions.ensures.1 in
+    let t = slip_there (job_of a.c.now) (board a.c.now.wide.now.words) (board a.b.now.words) a.list.now a.stop a.p a.left c.in_ok-slip.slip (rw f at c.read_slip.ensures.0) in
+    rw (p.1, p.2) (sym t.0 ∙ sym c.in_err-slip_questions.ensures)
 
 pub apply-conflict-requires : goal.apply-conflict-requires
 apply-conflict-requires c =
     let a = c.args in
-    let p = c.requires.0 in
-    (applies_is (shares a.k a.cages.now a.table.now a.lags.now a.sets.now p.seated) p.range.few (board a.wide.now) (board a.b.now) a.list.now c.in-Whole.slip a.left (placed_of a.list.now a.stop c.read_slip-read.result c.in-Whole.slip c.in-Whole.next c.read_slip-read.ensures.1 c.in-Whole.is).0 (passes c.if-number-ne0.false c.slip_questions-number.ensures), c.requires.1)
+    let f : c.read_slip.result ≡ Some (c.in_ok-slip.slip, c.in_ok-slip.next) = grind arith in
+    applies_is a.c.now c.requires.0 c.in_ok-slip.slip a.left c.in_ok-slip_questions.ensures
 
 pub returns : goal.returns
 returns c =
     let a = c.args in
-    let x = explanation_of a.list.now c.in-Whole.slip in
-    let e = c.apply-conflict.ensures a.table.now x.premises in
-    let j = call_of a.k a.cages.now a.table.now a.lags.now a.sets.now in
-    let t = slip_there j (board a.wide.now) (board a.b.now) a.list.now a.stop a.p a.left c.read_slip-read.result c.read_slip-read.ensures.0 c.in-Whole.slip c.in-Whole.next c.in-Whole.is in (
-      goes_by j (board a.wide.now) (board a.b.now) a.list.now a.stop a.p a.left c.read_slip-read.result c.read_slip-read.ensures.0 c.in-Whole.slip c.in-Whole.next c.in-Whole.is c.slip_questions-number.result c.if-number-ne0.false c.slip_questions-number.ensures,
+    let n = a.c.now.job.events in
+    let table = a.c.now.table.now in
+    let f : c.read_slip.result ≡ Some (c.in_ok-slip.slip, c.in_ok-slip.next) = grind arith in
+    let s = rw f at c.read_slip.ensures.1 in
+    let t = slip_there (job_of a.c.now) (board a.c.now.wide.now.words) (board a.b.now.words) a.list.now a.stop a.p a.left c.in_ok-slip.slip (rw f at c.read_slip.ensures.0) in
+    let e = c.apply-conflict.ensures table in (
+      sym t.0 ∙ sym c.in_ok-slip_questions.ensures,
       t.2,
+      refl,
       e.0 ∙ ap is_conflict t.1,
-      e.2 ∙ ap (applied (table_of a.k.events a.table.now a.b.now)) t.1,
-      e.1,
-      (placed_of a.list.now a.stop c.read_slip-read.result c.in-Whole.slip c.in-Whole.next c.read_slip-read.ensures.1 c.in-Whole.is).1,
+      e.1 ∙ ap (applied (table_of n table a.b.now.words)) t.1,
+      s,
     )
