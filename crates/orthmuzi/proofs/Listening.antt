@@ -2,16 +2,17 @@
 -- Assumes nothing.
 use Rattle.std.specs.Prelude.{Option, None, Some}
 use Rattle.std.specs.Io.KnownBytes.{Consumes, IsAtEnd}
+use Rattle.std.proofs.KnownBytes.{Consumes-nil, Consumes-trans, Consumes-whole}
 use Rattle.std.proofs.Common.{◌≡◌, refl, sym, ap, ◌∙◌, true, false, List, [], ◌∷◌, ◌++◌, append_assoc, append-nil, inl, inr, ℕ, ◌+◌, ◌-◌, ◌^◌, ◌≤◌, ℤ, length, length-append, arith}
 use borrow.Author.Tests.{ltb-false}
 use Rattle.integers.proofs.Tests.{true_is}
 use Rattle.model.specs.Text.{Parsed, parsed, malformed, on, job_text}
 use Rattle.model.specs.Program.{Piece, gave, failed, text_of, Ended, came_to_end, broke_off, went_on}
-use Rattle.scanner.specs.Scanner.{State, state, fed, finished, taken, goes_on}
+use Rattle.std.specs.declared.ops.ControlFlow.TheVariants.{Continue, Break}
+use Rattle.scanner.specs.Scanner.{State, state, step, fed, finished, taken, goes_on}
 use Rattle.scanner.specs.declared.scan.Scan.{Scan}
 use Rattle.scanner.specs.declared.scan.Scan.TheVariants.{Between, Malformed}
-use Rattle.scanner.specs.declared.pieces.Taken.{Taken}
-use Rattle.scanner.proofs.Steps.{fed_append}
+use Rattle.std.proofs.lemmas.List.Sums.{fold-append}
 use Rattle.scanner.proofs.Reading.{reads}
 use Rattle.orthmuzi.specs.Hearing.{Gives, TookNext, Whole, HeardAll}
 
@@ -41,13 +42,6 @@ came_ended (more {pieces = ps} b bytes c) {qs} e =
 
 -- ---- bytes that are known to be left
 
-consumes_more : (before after later : Option (List ℕ)) (text bytes : List ℕ) → Consumes before after text → Consumes after later bytes → Consumes before later (text ++ bytes)
-consumes_more None after later text bytes c d = tt
-consumes_more (Some xs) None later text bytes c d = elim c [ ]
-consumes_more (Some xs) (Some ys) None text bytes c d = elim d [ ]
-consumes_more (Some xs) (Some ys) (Some zs) text bytes c d =
-    c ∙ ap (λ (l : List ℕ). text ++ l) d ∙ sym (append_assoc text bytes zs)
-
 -- A text that is not known to its end.
 whole_never : (before : Option (List ℕ)) (pieces : List Piece) → text_of pieces ≡ malformed → Whole before pieces
 whole_never None pieces e = tt
@@ -55,9 +49,8 @@ whole_never (Some xs) pieces e = λ text f. grind (arith, e, f)
 
 -- All of it was consumed.
 whole_end : (before after : Option (List ℕ)) (pieces : List Piece) (text : List ℕ) → Consumes before after text → IsAtEnd after → text_of pieces ≡ parsed text → Whole before pieces
-whole_end None after pieces text c a e = tt
-whole_end (Some xs) None pieces text c a e = elim c [ ]
-whole_end (Some xs) (Some ys) pieces text c a e = λ x f. grind (arith, append-nil, a, c, e, f)
+whole_end before after pieces text c a e =
+    Consumes-whole before after text (λ bytes. (x : List ℕ) → text_of pieces ≡ parsed x → x ≡ bytes) c a (λ x f. cc)
 
 -- ---- turns
 
@@ -71,13 +64,8 @@ pub record Going (before : Option (List ℕ)) (fresh : List ℤ) (after : Option
   is : state s t ≡ fed (state (Between 0) fresh) text
 
 pub going_start : (before : Option (List ℕ)) (fresh : List ℤ) {s : Scan} → s ≡ Between 0 → Going before fresh before s fresh 0
-unfolding fed
 going_start before fresh e =
-    record { pieces = []; text = []; came = nothing; many = refl; left = go before; is = ap (λ (x : Scan). state x fresh) e }
-  where
-    go : (before : Option (List ℕ)) → Consumes before before []
-    go None = tt
-    go (Some xs) = refl
+    record { pieces = []; text = []; came = nothing; many = refl; left = Consumes-nil before; is = ap (λ (x : Scan). state x fresh) e }
 
 module _ {before : Option (List ℕ)} {fresh : List ℤ} {after : Option (List ℕ)} {s : Scan} {t : List ℤ} {turns : ℕ} (g : Going before fresh after s t turns) where
   -- All turns are used up.
@@ -95,8 +83,8 @@ module _ {before : Option (List ℕ)} {fresh : List ℤ} {after : Option (List �
         whole = whole_never before g.pieces never;
       }
 
-  module _ {later : Option (List ℕ)} {r : Taken} {u : List ℤ} (k : TookNext after later s t r u) where
-    further : (p : Piece) → goes_on p ≡ true → Gives after later p → state r.scan u ≡ taken (state s t) p → Going before fresh later r.scan u (turns + 1)
+  module _ (later : Option (List ℕ)) {r : Scan} {u : List ℤ} where
+    further : (p : Piece) → goes_on p ≡ true → Gives after later p → state r u ≡ taken (state s t) p → Going before fresh later r u (turns + 1)
     further failed m v e = absurd (true_is m)
     further (gave []) m v e = absurd (true_is m)
     further (gave (b ∷ bytes)) m v e =
@@ -105,15 +93,15 @@ module _ {before : Option (List ℕ)} {fresh : List ℤ} {after : Option (List �
           text = g.text ++ (b ∷ bytes);
           came = more b bytes g.came;
           many = omega (arith, g.many, length-append g.pieces (gave (b ∷ bytes) ∷ []));
-          left = consumes_more before after later g.text (b ∷ bytes) g.left v.0;
-          is = e ∙ ap (λ (x : State). fed x (b ∷ bytes)) g.is ∙ sym (fed_append (state (Between 0) fresh) g.text (b ∷ bytes));
+          left = Consumes-trans before after later g.text (b ∷ bytes) g.left v.0;
+          is = e ∙ ap (λ (x : State). fed x (b ∷ bytes)) g.is ∙ sym (fold-append step (state (Between 0) fresh) g.text (b ∷ bytes));
         }
 
-    pub going_on : r.more ≡ true → Going before fresh later r.scan u (turns + 1)
-    going_on m = further k.took.piece (sym k.took.more ∙ m) k.gives k.took.scan
+    pub going_on : TookNext after later s t (Continue r) u → Going before fresh later r u (turns + 1)
+    going_on k = further k.took.piece (sym k.took.more) k.gives k.took.scan
 
-    last : 2198 ≤ length fresh → (p : Piece) → goes_on p ≡ false → Gives after later p → state r.scan u ≡ taken (state s t) p → HeardAll before r.scan u
-    unfolding text_of fed
+    last : 2198 ≤ length fresh → (p : Piece) → goes_on p ≡ false → Gives after later p → state r u ≡ taken (state s t) p → HeardAll before r u
+    unfolding text_of
     last l failed m v e =
         let never : text_of (g.pieces ++ (failed ∷ [])) ≡ malformed = came_text g.came (failed ∷ []) in
         record {
@@ -138,9 +126,9 @@ module _ {before : Option (List ℕ)} {fresh : List ℤ} {after : Option (List �
                     ∙ ap job_text (sym (append-nil g.text))
                     ∙ ap (λ (p : Parsed (List ℕ)). on p job_text) (sym ends);
               };
-          whole = whole_end before later (g.pieces ++ (gave [] ∷ [])) (g.text ++ []) (consumes_more before after later g.text [] g.left v.0) (v.1 refl) ends;
+          whole = whole_end before later (g.pieces ++ (gave [] ∷ [])) (g.text ++ []) (Consumes-trans before after later g.text [] g.left v.0) (v.1 refl) ends;
         }
     last l (gave (b ∷ bytes)) m v e = absurd (omega (arith, ltb-false 0 (length (b ∷ bytes)) m))
 
-    pub going_end : 2198 ≤ length fresh → r.more ≡ false → HeardAll before r.scan u
-    going_end l m = last l k.took.piece (sym k.took.more ∙ m) k.gives k.took.scan
+    pub going_end : 2198 ≤ length fresh → TookNext after later s t (Break r) u → HeardAll before r u
+    going_end l k = last l k.took.piece (sym k.took.more) k.gives k.took.scan

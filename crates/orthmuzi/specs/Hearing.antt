@@ -3,15 +3,15 @@ use Rattle.std.specs.Prelude.{◌≡◌, List, [], ◌⊎◌, ℕ, ◌-◌, ◌^
 use Rattle.std.specs.Io.KnownBytes.{Consumes, Keeps, Appends, IsAtEnd}
 use Rattle.model.specs.Text.{parsed, on, job_text}
 use Rattle.model.specs.Program.{Piece, gave, failed, text_of, Ended, answered}
-use Rattle.scanner.specs.Scanner.{state, finished, taken, goes_on}
+use Rattle.std.specs.declared.ops.ControlFlow.{ControlFlow}
+use Rattle.scanner.specs.Scanner.{state, finished, taken, goes_on, scan_of, has_more}
 use Rattle.scanner.specs.declared.scan.Scan.{Scan}
-use Rattle.scanner.specs.declared.pieces.Taken.{Taken}
 
 -- One piece that `read` gave was taken.
-pub record Took (s : Scan) (t : List ℤ) (r : Taken) (u : List ℤ) : Type 0 where
+pub record Took (s : Scan) (t : List ℤ) (r : ControlFlow Scan Scan) (u : List ℤ) : Type 0 where
   pub piece : Piece
-  pub scan : state r.scan u ≡ taken (state s t) piece
-  pub more : r.more ≡ goes_on piece
+  pub scan : state (scan_of r) u ≡ taken (state s t) piece
+  pub more : has_more r ≡ goes_on piece
 
 -- All pieces were taken, and the scan over the table says what their text says.
 pub record Heard (s : Scan) (t : List ℤ) : Type 0 where
@@ -27,7 +27,7 @@ Gives before after (gave bytes) = Consumes before after bytes × (bytes ≡ [] �
 Gives before after failed = Keeps before after
 
 -- The piece taken is what the reader had next.
-pub record TookNext (before after : Option (List ℕ)) (s : Scan) (t : List ℤ) (r : Taken) (u : List ℤ) : Type 0 where
+pub record TookNext (before after : Option (List ℕ)) (s : Scan) (t : List ℤ) (r : ControlFlow Scan Scan) (u : List ℤ) : Type 0 where
   pub took : Took s t r u
   pub gives : Gives before after took.piece
 

@@ -3,7 +3,7 @@
 // They take any reader and any writers, so that `run` can say what becomes of the bytes of those whose bytes are known; `main` lends the three standard ones, whose are not.
 #![tactic(auto)]
 
-ghost use Rattle.std.specs.Prelude.{◌≡◌, ◌≤◌, length, IsTrue};
+ghost use Rattle.std.specs.Prelude.{◌≤◌, length, OnOk};
 ghost use Rattle.std.specs.Io.KnownBytes.{Appends};
 ghost use Rattle.model.specs.Text.{parsed};
 ghost use Rattle.model.specs.Print.{printed};
@@ -17,30 +17,27 @@ ghost use Rattle.orthmuzi.specs.Hearing.{TookNext, HeardAll, Wrote};
 
 use propagator::Answer;
 use propagator::plans::plan;
-use scanner::{Layout, MOST_NUMBERS, Scan, Sizes, Taken};
+use questions::Refusal;
+use scanner::{MOST_NUMBERS, Scan, Sizes};
+use std::io;
 use std::io::{Read, Write};
+use std::ops::ControlFlow;
 
-// An answer as text.
-fn report(a: Answer, windows: &[i32], out: &mut [u8]) -> usize
+// A reply as text.
+fn report(reply: Result<Answer, Refusal>, windows: &[i32], out: &mut [u8]) -> usize
     requires { (length windows.now ≤ 320) × (8192 ≤ length out.old) }
-    ensures { Printed out.new result (printed (reply_of a) windows.now) }
+    ensures { Printed out.new result (printed (reply_of reply) windows.now) }
 {
-    match a {
-        Answer::Settled(c) => printer::print_done(out, b"settled", c.slips, c.rounds, windows),
-        Answer::Conflict(c) => printer::print_done(out, b"conflict", c.slips, c.rounds, windows),
-        Answer::Stopped(c) => printer::print_done(out, b"stopped", c.slips, c.rounds, windows),
-        Answer::Refused(f) => printer::print_refused(out, f.number, f.place),
+    match reply {
+        Ok(a) => {
+            let name = a.verdict.name().as_bytes();
+            printer::print_done(out, name, a.slips, a.rounds, windows)
+        }
+        Err(r) => printer::print_refused(out, r.question.number(), r.place),
     }
 }
 
-fn copy(from: &[i32], to: &mut [i32])
-    requires { length from.now ≡ length to.old }
-    ensures { to.new ≡ from.now }
-{
-    to.copy_from_slice(from);
-}
-
-// A job planned with a round limit in a slip room of 16,000 words, and its answer put into `out`.
+// A job, word table by word table as `plan` takes it, planned with a round limit in a slip room of 16,000 words, and its answer put into `out`.
 fn planned(
     h: i32,
     cages: &[i32],
@@ -63,21 +60,17 @@ fn table_planned(s: Sizes, table: &[i32], space: &mut [i32], out: &mut [u8]) -> 
     requires { Room s table.now × (320 ≤ length space.old) × (8192 ≤ length out.old) }
     ensures { Printed out.new result (answered (parsed (job_in table.now s, s.limit))) }
 {
-    let behind = 2 + 4 * s.cages;
-    let first = behind + 2;
-    let words = 5 * s.events;
-    let lags = first + words;
-    let end = lags + 3 * s.lags;
-    let sets = end + 1;
-    let last = sets + s.words;
-    let windows = &mut space[..words];
-    copy(&table[first..lags], windows);
+    let windows_at = 4 + 4 * s.cages;
+    let lags_at = windows_at + 5 * s.events;
+    let sets_at = lags_at + 3 * s.lags + 1;
+    let windows = &mut space[..5 * s.events];
+    windows.copy_from_slice(&table[windows_at..lags_at]);
     planned(
         table[0],
-        &table[2..behind],
+        &table[2..][..4 * s.cages],
         windows,
-        &table[lags..end],
-        &table[sets..last],
+        &table[lags_at..][..3 * s.lags],
+        &table[sets_at..][..s.words],
         s.limit,
         out,
     )
@@ -88,8 +81,7 @@ fn answer(s: Scan, table: &mut [i32], out: &mut [u8]) -> usize
     requires { 8192 ≤ length out.old }
     ensures { Printed out.new result (answered (finished (state s table.old))) }
 {
-    let layout = scanner::finish(s, table);
-    let Layout::Fits(sizes) = layout else {
+    let Some(sizes) = scanner::finish(s, table) else {
         return printer::print_refused(out, 20, 0);
     };
     let mut space = [0i32; 320];
@@ -103,21 +95,23 @@ fn complain(errors: &mut impl Write, line: &[u8]) {
 
 // Reads once, and takes what came, all of it.
 // It rules out a program that loses the rest of a piece (piece_cut_short).
-fn read_some<R: Read>(input: &mut R, errors: &mut impl Write, s: Scan, table: &mut [i32]) -> Taken
+fn read_some<R: Read>(
+    input: &mut R,
+    errors: &mut impl Write,
+    s: Scan,
+    table: &mut [i32],
+) -> ControlFlow<Scan, Scan>
     ensures { TookNext (R.remaining input.old) (R.remaining input.new) s table.old result table.new }
 {
     let mut piece = [0u8; 65536];
-    let got = match input.read(&mut piece) {
-        Ok(n) => n as isize,
-        Err(_) => {
-            complain(
-                errors,
-                b"orthmuzi: standard input could not be read to its end\n",
-            );
-            -1
-        }
-    };
-    scanner::take(s, &piece, got, table)
+    let got = input.read(&mut piece);
+    if got.is_err() {
+        complain(
+            errors,
+            b"orthmuzi: standard input could not be read to its end\n",
+        );
+    }
+    scanner::take(s, &piece, got.ok(), table)
 }
 
 // Reads to the end of the input. A proved loop has to end, and nothing says that the input does: it takes no more turns than a number that no run uses up.
@@ -127,39 +121,37 @@ fn read_all<R: Read>(input: &mut R, errors: &mut impl Write, table: &mut [i32]) 
 {
     let mut scan = scanner::start();
     for _ in 0..u64::MAX {
-        let taken = read_some(input, errors, scan, table);
-        scan = taken.scan;
-        if !taken.more {
-            return scan;
+        match read_some(input, errors, scan, table) {
+            ControlFlow::Continue(next) => scan = next,
+            ControlFlow::Break(last) => return last,
         }
     }
     Scan::Malformed
 }
 
-// Writes the answer, which has to be that of the text read, and says whether all of it was written.
+// Writes the answer, which has to be that of the text read; it is Ok where all of it was written.
 // It rules out a program that writes nothing (nothing_told), one that calls a part the whole (part_told) and one that writes another answer (conflict_as_settled, refused_as_21, room_too_small).
-fn tell<W: Write>(output: &mut W, errors: &mut impl Write, answer: &[u8]) -> bool
+fn tell<W: Write>(output: &mut W, answer: &[u8]) -> io::Result<()>
     requires { Told answer.now }
-    ensures { IsTrue result → Appends (W.contents output.old) (W.contents output.new) answer.now }
+    ensures { OnOk result (Appends (W.contents output.old) (W.contents output.new) answer.now) }
 {
-    let is_written = output.write_all(answer).is_ok();
-    if !is_written {
-        complain(errors, b"orthmuzi: the answer could not be written\n");
-    }
-    is_written
+    output.write_all(answer)
 }
 
-// Reads, plans and writes; says whether the answer was written. It is then that of the whole text, where the reader's bytes are known and no read failed.
-fn run<R: Read, W: Write>(input: &mut R, output: &mut W, errors: &mut impl Write) -> bool
-    ensures { IsTrue result → Wrote (R.remaining input.old) (W.contents output.old) (W.contents output.new) }
+// Reads, plans and writes; it is Ok where the answer was written. That is then the answer of the whole text, where the reader's bytes are known and no read failed.
+fn run<R: Read, W: Write>(input: &mut R, output: &mut W, errors: &mut impl Write) -> io::Result<()>
+    ensures { OnOk result (Wrote (R.remaining input.old) (W.contents output.old) (W.contents output.new)) }
 {
     let mut table = [0i32; MOST_NUMBERS];
     let mut out = [0u8; 8192];
     let s = read_all(input, errors, &mut table);
     let n = answer(s, &mut table, &mut out);
-    tell(output, errors, &out[..n])
+    tell(output, &out[..n])
 }
 
 fn main(rt: HostRuntime) {
-    run(&mut rt.stdin(), &mut rt.stdout(), &mut rt.stderr());
+    let mut errors = rt.stderr();
+    if run(&mut rt.stdin(), &mut rt.stdout(), &mut errors).is_err() {
+        complain(&mut errors, b"orthmuzi: the answer could not be written\n");
+    }
 }

@@ -1,192 +1,103 @@
--- Laws of what is put into a buffer, and of decimal digits.
+-- Texts put one behind the other, and the numbers in them.
 -- Assumes nothing.
-use mathlib.Core.Path.{◌≡◌, refl, sym, ap, ◌∙◌}
-use mathlib.Core.Bool.{true, false}
-use mathlib.Core.List.{List, [], ◌∷◌, ◌++◌, append_assoc, append-nil}
-use Prim.Native.Nat.{ℕ, zero, suc, ◌+◌, ◌*◌, ◌-◌, ◌/◌, ◌%◌, ◌^◌, ◌≤◌, ◌<◌}
+use Rattle.std.proofs.Common.{◌≡◌, refl, sym, ap, ◌∙◌, List, [], ◌∷◌, ◌++◌, append_assoc, ℕ, zero, suc, ◌+◌, ◌*◌, ◌/◌, ◌^◌, ◌≤◌, ◌<◌, ℤ, pos, negsuc, length, take, drop, flat_map, get_or, length-append, length-take, length-drop, add-one, arith}
 use native.Mathlib.Decide.{dec_lt}
-use native.Mathlib.Nat.{pow-suc}
-use native.Mathlib.Numerals.{add-one}
-use native.Mathlib.Omega.{arith}
-use borrow.Author.Tests.{lt-ltb, le-ltb, ltb-true}
-use lib.IntN.{ℤ, pos, negsuc, neg_ℤ, nat_abs}
-use lib.ListN.{length, get_or, take, set, length-append, length-take, drop}
-use lib.Seq.{take-suc-set, take-suc, take_all}
-use lib.Signed.{lt_z, mag}
-use Rattle.integers.proofs.Tests.{false_is}
-use Rattle.printer.specs.Buffer.{Put, Printed}
+use borrow.Author.Tests.{lt-ltb, le-ltb}
+use mir.Val.{to_z, of_z}
+use mir.Syntax.{w32}
+use lib.Signed.{mag}
+use Rattle.std.specs.Fmt.{decimal, signed_decimal}
+use Rattle.std.proofs.lemmas.Fmt.{decimal_digit, decimal_step}
+use Rattle.std.proofs.lemmas.List.{take_more, take_all, take-append-le, drop-drop, drop_at, flat_map_more}
+use Rattle.integers.proofs.Linear.{back32}
 use Rattle.model.specs.Print.{last_digits, numeral, integer, line_of, headline, event_lines}
+use Rattle.printer.specs.declared.text.Text.{Text}
+use Rattle.printer.specs.Buffer.{Put}
 
 -- ---- what is put
 
-pub put_one : (d : List ℕ) (at b : ℕ) → at + 1 ≤ length d → Put 1 d (set d at b) at (at + 1) (b ∷ [])
-put_one d at b h = record { few = omega arith; ends = refl; holds = rw (add-one at) (take-suc-set d at b (omega arith)) }
-
-pub put_none : (most : ℕ) (d : List ℕ) (at : ℕ) → Put most d d at at []
-put_none most d at = record { few = omega arith; ends = omega arith; holds = sym (append-nil (take at d)) }
-
-pub put_then : {m n i j k : ℕ} {a b c x y : List ℕ} → Put m a b i j x → Put n b c j k y → Put (m + n) a c i k (x ++ y)
-put_then {i = i} {a = a} {x = x} {y = y} p q =
+pub put_then : {m n : ℕ} {a b c : Text} {x y : List ℕ} → Put m a b x → Put n b c y → Put (m + n) a c (x ++ y)
+put_then {a = a} {x = x} {y = y} p q =
     record {
+      same = q.same ∙ p.same;
+      long = q.long ∙ p.long;
       few = omega (arith, p.few, q.few, length-append x y);
       ends = omega (arith, p.ends, q.ends, length-append x y);
-      holds = q.holds ∙ ap (λ (l : List ℕ). l ++ y) p.holds ∙ append_assoc (take i a) x y;
+      holds = q.holds ∙ ap (λ (l : List ℕ). l ++ y) p.holds ∙ append_assoc (take a.at a.out.now) x y;
     }
 
-pub put_most : {m n i j : ℕ} {a b x : List ℕ} → length x ≤ n → Put m a b i j x → Put n a b i j x
-put_most h p = record { few = h; ends = p.ends; holds = p.holds }
+pub put_as : {m n : ℕ} {a b : Text} {x y : List ℕ} → m ≤ n → x ≡ y → Put m a b x → Put n a b y
+put_as h e p = rw (← e) (record { same = p.same; long = p.long; few = omega (arith, p.few); ends = p.ends; holds = p.holds })
 
-pub put_wider : {m n i j : ℕ} {a b x : List ℕ} → m ≤ n → Put m a b i j x → Put n a b i j x
-put_wider h p = record { few = omega (arith, p.few); ends = p.ends; holds = p.holds }
-
-pub put_as : {m i j : ℕ} {a b x y : List ℕ} → x ≡ y → Put m a b i j x → Put m a b i j y
-put_as e p = rw (← e) p
-
-module _ (bytes : List ℕ) (i : ℕ) where
-  pub bytes_more : {s j k : ℕ} {a b c : List ℕ} → i < length bytes → Put (length bytes) a b s j (take i bytes) → Put 1 b c j k (get_or bytes i 0 ∷ []) → Put (length bytes) a c s k (take (i + 1) bytes)
-  bytes_more h p q =
-      put_most (omega (arith, length-take (i + 1) bytes))
-      (put_as (rw (add-one i) (sym (take-suc bytes i 0 h))) (put_then p q))
-
-  pub bytes_all : {s j : ℕ} {a b : List ℕ} → length bytes ≤ i → Put (length bytes) a b s j (take i bytes) → Put (length bytes) a b s j bytes
-  bytes_all h p = put_as (take_all i bytes h) p
-
--- ---- digits
+-- ---- numbers
 
 -- Any number of digits above n is enough.
-enough : (k m n : ℕ) → n < k → n < m → last_digits k n ≡ last_digits m n
+digits_are : (k n : ℕ) → n < k → n < 2 ^ 64 → last_digits k n ≡ decimal n
 unfolding last_digits
-enough zero m n h l = absurd (omega arith)
-enough (suc k) zero n h l = absurd (omega arith)
-enough (suc k) (suc m) n h l =
-    go (dec_lt n 10) (λ s. enough k m (n / 10) (omega arith) (omega arith))
+digits_are zero n h l = absurd (omega arith)
+digits_are (suc k) n h l = go (dec_lt n 10) (λ (g : 10 ≤ n). digits_are k (n / 10) (omega arith) (omega arith))
   where
-    go : Dec (n < 10) → (10 ≤ n → last_digits k (n / 10) ≡ last_digits m (n / 10)) → last_digits (suc k) n ≡ last_digits (suc m) n
-    go (yes s) r = rw (lt-ltb n 10 s)
-    go (no s) r = rw (le-ltb n 10 (omega arith), r (omega arith))
+    go : Dec (n < 10) → (10 ≤ n → last_digits k (n / 10) ≡ decimal (n / 10)) → last_digits (suc k) n ≡ decimal n
+    go (yes s) r = rw (lt-ltb n 10 s, decimal_digit n s)
+    go (no s) r = rw (le-ltb n 10 (omega arith), r (omega arith)) (sym (decimal_step n (omega arith) l))
 
-pub numeral_small : (n : ℕ) → n < 10 → numeral n ≡ (48 + n) ∷ []
-unfolding numeral last_digits
-numeral_small n h = rw (lt-ltb n 10 h)
+pub numeral_is : (n : ℕ) → n < 2 ^ 64 → decimal n ≡ numeral n
+unfolding numeral
+numeral_is n h = sym (digits_are (suc n) n (omega arith) h)
 
-pub numeral_large : (n : ℕ) → 10 ≤ n → numeral n ≡ numeral (n / 10) ++ ((48 + n % 10) ∷ [])
-unfolding numeral last_digits
-numeral_large n h = rw (le-ltb n 10 h) (ap (λ (l : List ℕ). l ++ ((48 + n % 10) ∷ [])) (enough n (suc (n / 10)) (n / 10) (omega arith) (omega arith)))
-
--- k + 1 digits hold what is below 10 ^ (k + 1).
-numeral_few : (k n : ℕ) → n < 10 ^ suc k → length (numeral n) ≤ suc k
-numeral_few zero n h = rw (numeral_small n (omega arith)) (omega arith)
-numeral_few (suc k) n h = go (dec_lt n 10) (numeral_few k (n / 10) (omega (arith, pow-suc 10 (suc k))))
-  where
-    go : Dec (n < 10) → length (numeral (n / 10)) ≤ suc k → length (numeral n) ≤ suc (suc k)
-    go (yes s) r = rw (numeral_small n s) (omega arith)
-    go (no s) r = rw (numeral_large n (omega arith)) (omega (arith, length-append (numeral (n / 10)) ((48 + n % 10) ∷ [])))
-
-pub numeral_20 : (n : ℕ) → n < 2 ^ 64 → length (numeral n) ≤ 20
-numeral_20 n h = numeral_few 19 n (omega arith)
-
-pub numeral_10 : (n : ℕ) → n ≤ 2 ^ 31 → length (numeral n) ≤ 10
-numeral_10 n h = numeral_few 9 n (omega arith)
-
-pub numeral_more : (n : ℕ) → 10 ≤ n → length (numeral n) ≡ length (numeral (n / 10)) + 1
-numeral_more n h = ap length (numeral_large n h) ∙ length-append (numeral (n / 10)) ((48 + n % 10) ∷ [])
-
-module _ (n : ℕ) {b : ℕ} where
-  pub one_digit : {i j : ℕ} {x y : List ℕ} → n < 10 → b ≡ 48 + n → Put 1 x y i j (b ∷ []) → Put (length (numeral n)) x y i j (numeral n)
-  one_digit h e p = put_most (omega arith) (put_as (rw e (sym (numeral_small n h))) p)
-
-  pub more_digits : {i j k : ℕ} {x y z : List ℕ} → 10 ≤ n → Put (length (numeral (n / 10))) x y i j (numeral (n / 10)) → b ≡ 48 + n % 10 → Put 1 y z j k (b ∷ []) → Put (length (numeral n)) x z i k (numeral n)
-  more_digits h p e q = put_most (omega arith) (put_as (rw e (sym (numeral_large n h))) (put_then p q))
-
--- ---- a whole number
-
-pub integer_negative : (z : ℤ) → lt_z z (pos 0) ≡ true → integer z ≡ 45 ∷ numeral (nat_abs z)
+pub integer_is : (z : ℤ) → mag z < 2 ^ 31 → signed_decimal z ≡ integer z
 unfolding integer
-integer_negative (pos n) e = absurd (omega (arith, ltb-true n 0 e))
-integer_negative (negsuc n) e = refl
-
-pub integer_positive : (z : ℤ) → lt_z z (pos 0) ≡ false → integer z ≡ numeral (nat_abs z)
-unfolding integer
-integer_positive (pos n) e = refl
-integer_positive (negsuc n) e = absurd (false_is e)
-
-pub nat_abs_neg : (z : ℤ) → nat_abs (neg_ℤ z) ≡ nat_abs z
-nat_abs_neg (pos zero) = refl
-nat_abs_neg (pos (suc n)) = refl
-nat_abs_neg (negsuc n) = refl
-
-pub magnitude_10 : (z : ℤ) {n : ℕ} → mag z < 2 ^ 31 → n ≡ nat_abs z → length (numeral n) ≤ 10
-magnitude_10 (pos k) {n} h e = numeral_10 n (omega arith)
-magnitude_10 (negsuc k) {n} h e = numeral_10 n (omega arith)
-
-module _ (z : ℤ) {m n i j : ℕ} {x y : List ℕ} (small : mag z < 2 ^ 31) (is : n ≡ nat_abs z) where
-  pub put_positive : lt_z z (pos 0) ≡ false → Put m x y i j (numeral n) → Put 11 x y i j (integer z)
-  put_positive e p =
-      let l = magnitude_10 z small is in
-      put_as (rw is (sym (integer_positive z e))) (put_most {n = 11} (omega arith) p)
-
-  pub put_negative : {k l : ℕ} {w : List ℕ} → lt_z z (pos 0) ≡ true → Put l w x k i (45 ∷ []) → Put m x y i j (numeral n) → Put 11 w y k j (integer z)
-  put_negative e p q =
-      let l = magnitude_10 z small is in
-      put_as (rw is (sym (integer_negative z e))) (put_most {n = 11} (omega arith) (put_then p q))
+integer_is (pos n) h = numeral_is n (omega arith)
+integer_is (negsuc n) h = ap (λ (l : List ℕ). 45 ∷ l) (numeral_is (suc n) (omega arith))
 
 -- ---- lines
 
-pub put_headline_parts : (a b : ℕ) {m i j k l o : ℕ} {p q r s t w : List ℕ} → Put m p q i j w → Put 21 q r j k (32 ∷ numeral a) → Put 21 r s k l (32 ∷ numeral b) → Put 1 s t l o (10 ∷ []) → Put (m + 43) p t i o (headline w a b)
+pub put_headline : {a b c d e : Text} {name : List ℕ} {m n : ℕ} → m < 2 ^ 64 → n < 2 ^ 64 → Put (length name) a b name → Put 21 b c (32 ∷ decimal m) → Put 21 c d (32 ∷ decimal n) → Put 1 d e (10 ∷ []) → Put (length name + 43) a e (headline name m n)
 unfolding line_of integer
-put_headline_parts a b x y z u = put_wider (omega arith) (put_then x (put_then y (put_then z u)))
+put_headline {m = m} {n} h k p q r s =
+    put_as (omega arith) (rw (numeral_is m h, numeral_is n k)) (put_then p (put_then q (put_then r s)))
 
 -- Words, each behind a blank.
-unfoldable pub spaced : List ℤ → List ℕ
-spaced [] = []
-spaced (z ∷ zs) = (32 ∷ integer z) ++ spaced zs
-
-spaced_snoc : (zs : List ℤ) (z : ℤ) → spaced (zs ++ (z ∷ [])) ≡ spaced zs ++ (32 ∷ integer z)
-unfolding spaced
-spaced_snoc [] z = append-nil (32 ∷ integer z)
-spaced_snoc (y ∷ zs) z = ap (λ (l : List ℕ). (32 ∷ integer y) ++ l) (spaced_snoc zs z) ∙ sym (append_assoc (32 ∷ integer y) (spaced zs) (32 ∷ integer z))
+abbrev pub spaced : List ℤ → List ℕ
+spaced zs = flat_map (λ z. 32 ∷ integer z) zs
 
 spaced_line : (zs : List ℤ) → spaced zs ++ (10 ∷ []) ≡ line_of zs
-unfolding spaced line_of
+unfolding line_of
 spaced_line [] = refl
 spaced_line (z ∷ zs) = append_assoc (32 ∷ integer z) (spaced zs) (10 ∷ []) ∙ ap (λ (l : List ℕ). (32 ∷ integer z) ++ l) (spaced_line zs)
 
-pub put_no_word : (d : List ℕ) (at : ℕ) (zs : List ℤ) → Put (12 * 0) d d at at (spaced (take 0 zs))
-unfolding spaced
-put_no_word d at zs = put_none 0 d at
-
 module _ (zs : List ℤ) (i : ℕ) where
-  pub put_words_more : {s j k : ℕ} {a b c : List ℕ} {z : ℤ} → i < length zs → z ≡ get_or zs i (pos 0) → Put (12 * i) a b s j (spaced (take i zs)) → Put 12 b c j k (32 ∷ integer z) → Put (12 * (i + 1)) a c s k (spaced (take (i + 1) zs))
-  put_words_more {z = z} h e p q =
-      put_wider (omega arith) (put_as (sym (spaced_snoc (take i zs) z) ∙ ap spaced (rw (e, add-one i) (sym (take-suc zs i (pos 0) h)))) (put_then p q))
+  -- A word more, behind a blank.
+  pub word_more : {a b c : Text} → i < length zs → mag (get_or zs i (pos 0)) < 2 ^ 31 → Put (12 * i) a b (spaced (take i zs)) → Put 12 b c (32 ∷ signed_decimal (to_z w32 (of_z w32 (get_or zs i (pos 0))))) → Put (12 * (i + 1)) a c (spaced (take (i + 1) zs))
+  word_more h k p q =
+      let z = get_or zs i (pos 0) in
+      let e : signed_decimal (to_z w32 (of_z w32 z)) ≡ integer z = ap signed_decimal (back32 z k) ∙ integer_is z k in
+      put_as (omega arith)
+      (rw (e, take_more zs i (pos 0) h) (flat_map_more (λ z. 32 ∷ integer z) [] (take i zs) z))
+      (put_then p q)
 
-  pub put_words_all : {s j k : ℕ} {a b c : List ℕ} → length zs ≤ i → i ≤ length zs → Put (12 * i) a b s j (spaced (take i zs)) → Put 1 b c j k (10 ∷ []) → Put (12 * length zs + 1) a c s k (line_of zs)
-  put_words_all h l p q =
-      put_wider (omega arith) (put_as (spaced_line zs) (put_then (put_as (ap spaced (take_all i zs h)) p) q))
+  pub line_end : {a b c : Text} → length zs ≤ i → i ≤ length zs → Put (12 * i) a b (spaced (take i zs)) → Put 1 b c (10 ∷ []) → Put (12 * length zs + 1) a c (line_of zs)
+  line_end h l p q = put_as (omega arith) (rw (take_all i zs h) (spaced_line zs)) (put_then p q)
 
-pub put_events_none : (table : List ℤ) (d : List ℕ) (at : ℕ) → Put (69 * 0) d d at at (event_lines table 0)
-unfolding event_lines
-put_events_none table d at = put_none 0 d at
+-- ---- events
 
-module _ (table : List ℤ) (y : ℕ) where
-  abbrev pub part : List ℤ
-  part = take (5 * y + 4 - 5 * y) (drop (5 * y) table)
+pub put_event : {a b c : Text} {y : ℕ} (event : List ℤ) → y < 2 ^ 64 → Put 20 a b (decimal y) → Put (12 * length (take 4 event) + 1) b c (line_of (take 4 event)) → Put 69 a c (numeral y ++ line_of (take 4 event))
+put_event {y = y} event h p q =
+    put_as (omega (arith, length-take 4 event)) (ap (λ (l : List ℕ). l ++ line_of (take 4 event)) (numeral_is y h)) (put_then p q)
 
-  pub put_event_parts : {i j k : ℕ} {p q r : List ℕ} → 5 * y + 5 ≤ length table → Put 20 p q i j (numeral y) → Put (12 * length part + 1) q r j k (line_of part) → Put 69 p r i k (numeral y ++ line_of (take 4 (drop (5 * y) table)))
-  put_event_parts h a b =
-      let e : 5 * y + 4 - 5 * y ≡ 4 = omega arith in
-      let c = rw e at b in
-      put_wider (omega (arith, length-take 4 (drop (5 * y) table))) (put_then a c)
-
-  pub put_events_more : {i j k : ℕ} {p q r : List ℕ} → Put (69 * y) p q i j (event_lines table y) → Put 69 q r j k (numeral y ++ line_of (take 4 (drop (5 * y) table))) → Put (69 * (y + 1)) p r i k (event_lines table (y + 1))
+-- One event more: its five words are the next of the table.
+module _ (table : List ℤ) (y : ℕ) (event left : List ℤ) (next : drop (5 * y) table ≡ event ++ left) (five : length event ≡ 5) where
+  pub event_more : {z : ℕ} {a b c : Text} → z ≡ y → Put (69 * y) a b (event_lines table y) → Put 69 b c (numeral z ++ line_of (take 4 event)) → Put (69 * (y + 1)) a c (event_lines table (y + 1))
   unfolding event_lines
-  put_events_more a b =
-      put_wider (omega arith)
-      (put_as (rw (add-one y) (sym (append_assoc (event_lines table y) (numeral y) (line_of (take 4 (drop (5 * y) table)))))) (put_then a b))
+  event_more e p q =
+      let words : take 4 (drop (5 * y) table) ≡ take 4 event = ap (take 4) next ∙ take-append-le 4 event left (omega arith) in
+      put_as (omega arith) (rw (add-one y, words, e) (sym (append_assoc (event_lines table y) (numeral y) (line_of (take 4 event))))) (put_then p q)
 
--- ---- the whole output
+  pub words_left : left ≡ drop (5 * (y + 1)) table
+  words_left =
+      let five_more : 5 * (y + 1) ≡ 5 * y + 5 = omega arith in
+      sym (ap (λ n. drop n table) five_more ∙ sym (drop-drop 5 (5 * y) table) ∙ ap (drop 5) next ∙ drop_at event left 5 five)
 
-pub printed_by : {m n : ℕ} {a b x : List ℕ} → m ≤ length b → Put m a b 0 n x → Printed b n x
-printed_by {n = n} {b = b} h p =
-    let f : n ≤ length b = omega (arith, p.few, p.ends) in
-    record { fits = f; all = omega (arith, length-take n b); are = p.holds }
+  pub words_within : 5 * (y + 1) ≤ length table
+  words_within =
+      omega (arith, length-drop (5 * y) table, ap length next, length-append event left, five)

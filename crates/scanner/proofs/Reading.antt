@@ -6,14 +6,14 @@ use mathlib.Core.Bool.{Bool, true, false, cond}
 use mathlib.Core.List.{List, [], ◌∷◌, ◌++◌, append_assoc, append-nil}
 use mathlib.Core.Logic.{◌⊎◌, inl, inr, ⊎_elim}
 use Prim.Native.Nat.{ℕ, ◌+◌, ◌*◌, ◌-◌, ◌≤◌, ◌<◌}
-use native.Mathlib.Numerals.{add-one}
 use native.Mathlib.Omega.{arith}
 use borrow.Author.Tests.{ne_eqb, eqb-true, leb-false, ltb-true, ltb-false, lt-leb}
 use lib.Dec.{leb, ltb, leb→le}
 use lib.IntN.{ℤ, pos, negsuc, neg_ℤ}
 use lib.ListN.{length, take, set, length-append, length-take, length-set}
-use lib.Seq.{take-suc-set}
 use lib.Signed.{le_z}
+use Rattle.std.specs.Prelude.{Option, Some}
+use Rattle.std.proofs.lemmas.List.{take_more_set}
 use Rattle.integers.proofs.Linear.{ints, neg_law}
 use Rattle.integers.proofs.Tests.{and_out, true_is}
 use Rattle.model.specs.Job.{Job}
@@ -21,8 +21,6 @@ use Rattle.model.specs.Text.{Parsed, parsed, malformed, on, blank, minus, digit,
 use Rattle.scanner.specs.Scanner.{State, state, sized, kept, closed, ended, negated, valued, grown, step, fed, read, finished}
 use Rattle.scanner.specs.declared.scan.Scan.{Scan}
 use Rattle.scanner.specs.declared.scan.Scan.TheVariants.{Between, Minus, Digits, Malformed}
-use Rattle.scanner.specs.declared.scan.Number.{Number}
-use Rattle.scanner.specs.declared.scan.Number.TheVariants.{Word}
 use Rattle.scanner.proofs.Steps.{case, fed_malformed}
 use Rattle.scanner.proofs.Laying.{too_many}
 
@@ -181,7 +179,7 @@ stored_one n z t w l h e =
       long = omega (arith, length-set t n z);
       found = z ∷ [];
       says = e;
-      read_so_far = rw (add-one n) (sym (take-suc-set t n z (omega arith)));
+      read_so_far = sym (take_more_set t n z (omega arith));
     }
 
 one_too_many : (n : ℕ) (z : ℤ) (t : List ℤ) (w : List ℕ) → 2198 ≤ length t → length t ≤ n → token w ≡ parsed (z ∷ []) → (p : Parsed (List ℤ)) → meant n t (joined w p) ≡ malformed
@@ -208,8 +206,8 @@ ends n t l h sign_alone = inr (refl, λ p. refl)
 ends n t l h (some_digits negative d u x e f) =
     case (fits_word z)
     (λ y.
-    let g : sized negative x ≡ Word z = rw y in
-    subst (λ (m : Number). Ends n t w (closed n m t)) (sym g) (ends_in n z t w l (token_whole negative d u e f ∙ rw y)))
+    let g : sized negative x ≡ Some z = rw y in
+    subst (λ (m : Option ℤ). Ends n t w (closed n m t)) (sym g) (ends_in n z t w l (token_whole negative d u e f ∙ rw y)))
     (λ y. inr (rw y, λ p. let g : token w ≡ malformed = token_whole negative d u e f ∙ rw y in rw g))
   where
     w : List ℕ
@@ -257,7 +255,7 @@ so_far k malformed = rw k.says
 
 -- What a state says of the text to come.
 reading : (text : List ℕ) (n : ℕ) (t : List ℤ) (s : Scan) (w : List ℕ) → 2198 ≤ length t → n ≤ length t → Opened n s w → finished_after (state s t) text ≡ meant n t (numbers_behind w text)
-unfolding fed numbers_behind
+unfolding numbers_behind
 reading [] n t s w l h o =
     ⊎_elim
     (λ k. ap read k.is ∙ ap job_of (sym (append-nil (take k.many k.table))) ∙ so_far k (parsed []))

@@ -1,12 +1,12 @@
 -- The text byte by byte: the code's own state, its step at a byte and its end, as definitions. proofs/Reading.antt shows that they read what Text.antt of `model` says.
-use Rattle.std.specs.Prelude.{Bool, true, false, cond, List, [], ◌∷◌, ℕ, ◌+◌, ◌*◌, ◌-◌, ltb, leb, ℤ, pos, negsuc, length, set, take}
+use Rattle.std.specs.Prelude.{Bool, true, false, cond, List, ℕ, ◌+◌, ◌*◌, ◌-◌, ltb, leb, ℤ, length, set, take, fold, Option, Some, None}
+use Rattle.std.specs.declared.ops.ControlFlow.{ControlFlow}
+use Rattle.std.specs.declared.ops.ControlFlow.TheVariants.{Continue, Break}
 use Rattle.model.specs.Job.{Job}
 use Rattle.model.specs.Text.{Parsed, malformed, blank, minus, digit, signed, fits_word, job_of}
 use Rattle.model.specs.Program.{Piece, gave, failed}
 use Rattle.scanner.specs.declared.scan.Scan.{Scan}
 use Rattle.scanner.specs.declared.scan.Scan.TheVariants.{Between, Minus, Digits, Malformed}
-use Rattle.scanner.specs.declared.scan.Number.{Number}
-use Rattle.scanner.specs.declared.scan.Number.TheVariants.{Word, Outside}
 
 -- Where the scanner stands after some bytes, and the table that holds the numbers read.
 pub record State : Type 0 where
@@ -17,16 +17,16 @@ abbrev pub state : Scan → List ℤ → State
 state s t = record { scan = s; table = t }
 
 -- A value with a sign as a word, if it is in 32 bits.
-abbrev pub sized : Bool → ℕ → Number
-sized negative v = cond (fits_word (signed negative v)) (Word (signed negative v)) Outside
+abbrev pub sized : Bool → ℕ → Option ℤ
+sized negative v = cond (fits_word (signed negative v)) (Some (signed negative v)) None
 
 -- Number n of the text is z, if the table has room for it.
 abbrev pub kept : ℕ → ℤ → List ℤ → State
 kept n z t = cond (ltb n (length t)) (state (Between (n + 1)) (set t n z)) (state Malformed t)
 
-abbrev pub closed : ℕ → Number → List ℤ → State
-closed n (Word z) t = kept n z t
-closed n Outside t = state Malformed t
+abbrev pub closed : ℕ → Option ℤ → List ℤ → State
+closed n (Some z) t = kept n z t
+closed n None t = state Malformed t
 
 -- A token ends: its number is stored.
 abbrev pub ended : Scan → List ℤ → State
@@ -58,9 +58,8 @@ step s b =
     (state (cond (minus b) (negated s.scan) (cond (digit b) (grown s.scan (b - 48)) Malformed)) s.table)
 
 -- All bytes of a piece.
-unfoldable pub fed : State → List ℕ → State
-fed s [] = s
-fed s (b ∷ bytes) = fed (step s b) bytes
+abbrev pub fed : State → List ℕ → State
+fed s bytes = fold step s bytes
 
 -- The end of the text ends its last token.
 abbrev pub read : State → Parsed (Job × ℤ)
@@ -77,10 +76,10 @@ finished s = read (ended s.scan s.table)
 
 -- ---- pieces
 
--- What a call of `read` gave that was lent these bytes and answered so.
-abbrev pub piece_of : List ℕ → ℤ → Piece
-piece_of lent (pos n) = gave (take n lent)
-piece_of lent (negsuc n) = failed
+-- What a call of `read` gave that was lent these bytes and put so many there, or failed.
+abbrev pub piece_of : List ℕ → Option ℕ → Piece
+piece_of lent (Some n) = gave (take n lent)
+piece_of lent None = failed
 
 -- One piece more; where the call failed, the text is not known to its end.
 abbrev pub taken : State → Piece → State
@@ -91,3 +90,12 @@ taken s failed = state Malformed s.table
 abbrev pub goes_on : Piece → Bool
 goes_on (gave bytes) = ltb 0 (length bytes)
 goes_on failed = false
+
+-- Where the text stands behind a piece, and whether it goes on there.
+abbrev pub scan_of : ControlFlow Scan Scan → Scan
+scan_of (Continue s) = s
+scan_of (Break s) = s
+
+abbrev pub has_more : ControlFlow Scan Scan → Bool
+has_more (Continue s) = true
+has_more (Break s) = false

@@ -5,6 +5,6 @@ mod layout;
 mod pieces;
 mod scan;
 
-pub use layout::{Layout, MOST_NUMBERS, Sizes, finish};
-pub use pieces::{Taken, take};
+pub use layout::{MOST_NUMBERS, Sizes, finish};
+pub use pieces::take;
 pub use scan::{Scan, feed, start};

@@ -4,8 +4,5 @@ use Prim.Native.Nat.{◌+◌, ◌*◌, ◌-◌, ◌≤◌}
 use Rattle.scanner.specs.Layout.{walked}
 use Rattle.scanner.proofs.layout.walk.Given as goal
 
-abbrev pub invariant-loop-g : goal.invariant-loop-g
-invariant-loop-g l = (l.g ≤ l.sets) × (l.at ≤ 2000 + 67 * l.g) × (walked l.numbers l.at (l.sets - l.g) ≡ walked l.numbers l.i l.sets)
-
-abbrev pub decreases-loop-g : goal.decreases-loop-g
-decreases-loop-g l = l.sets - l.g
+abbrev pub invariant-loop : goal.invariant-loop
+invariant-loop l = (l.i ≤ l.at) × (l.at ≤ l.i + 67 * l.counter) × (walked l.numbers l.at (l.sets - l.counter) ≡ walked l.numbers l.i l.sets)
