@@ -3,196 +3,178 @@
 // 1 planner or 2 reader, H, the round limit (0 for the reader), the words of the cage table, of the window table, of the lag table, of the set table, of the buffer or list; then these words.
 #![tactic(auto)]
 
-mod print;
+ghost use Rattle.std.specs.Prelude.{◌≤◌, length};
 
-ghost use Rattle.std.specs.Prelude.{◌+◌, ◌≤◌, length};
-
-use print::{judged, line, planned, say, windows};
+use checker::check;
+use questions::Refusal;
+use reservoir::plan_and_read;
 use scanner::Scan;
-use std::io::Read;
+use std::alloc::Global;
+use std::fmt::Display;
+use std::io;
+use std::io::{BufWriter, Read, Write};
 
-// Where a byte is next found from a place on, or the end.
-fn find(s: &[u8], from: usize, b: u8) -> usize
-    requires { from ≤ length s.now }
-    ensures { (from ≤ result) × (result ≤ length s.now) }
+// The program reads no more bytes than these, and a case has no more numbers.
+const MOST_BYTES: u64 = 65536;
+
+const MOST_NUMBERS: usize = 1030;
+
+// A case: who is called, and with which numbers and tables.
+#[derive(Clone, Copy)]
+struct Case<'a> {
+    kind: i32,
+    horizon: i32,
+    limit: i32,
+    cages: &'a [i32],
+    windows: &'a [i32],
+    lags: &'a [i32],
+    sets: &'a [i32],
+    list: &'a [i32],
+}
+
+// ---- read
+
+// The bytes before the first b, and those from it on.
+fn before(s: &[u8], b: u8) -> (&[u8], &[u8])
+    ensures { length result.1.now ≤ length s.now }
 {
-    for i in from..s.len() {
-        if s[i] == b {
-            return i;
-        }
-    }
-    s.len()
+    let end = s.iter().position(|x| *x == b).unwrap_or(s.len());
+    s.split_at(end)
 }
 
-// A length; a negative word is longer than any table.
-fn size(x: i32) -> usize {
-    if x < 0 {
-        return usize::MAX;
-    }
-    x as usize
+// As many words as a number says, at most so many, and those behind them.
+fn table(words: &[i32], size: i32, most: usize) -> Option<(&[i32], &[i32])> {
+    let n = usize::try_from(size).ok().filter(|n| *n <= most)?;
+    words.split_at_checked(n)
 }
 
-fn copy(from: &[i32], start: usize, to: &mut [i32])
-    requires { start + length to.old ≤ length from.now }
-{
-    let end = start + to.len();
-    to.copy_from_slice(&from[start..end]);
+// The case that the numbers are: a header and five tables.
+fn case_of(numbers: &[i32]) -> Option<Case<'_>> {
+    let (head, words) = numbers.split_first_chunk::<8>()?;
+    let [kind, horizon, limit, cages, windows, lags, sets, list] = *head;
+    let (cages, words) = table(words, cages, 40)?;
+    let (windows, words) = table(words, windows, 360)?;
+    let (lags, words) = table(words, lags, 800)?;
+    let (sets, words) = table(words, sets, 1200)?;
+    let (list, words) = table(words, list, 1000)?;
+    words.is_empty().then_some(Case {
+        kind,
+        horizon,
+        limit,
+        cages,
+        windows,
+        lags,
+        sets,
+        list,
+    })
 }
 
-// The call itself. What the planner writes is printed as the list, then what it leaves as it was, then what the reader says of that list.
-fn call(
-    rt: &impl Print,
-    numbers: &[i32; 1030],
-    cages: &[i32],
-    table: &mut [i32],
-    lags: &[i32],
-    sets: &[i32],
-    list: &mut [i32],
-) {
-    if numbers[0] == 1 {
-        let checked = reservoir::plan_and_read(
-            numbers[1], cages, table, lags, sets, numbers[2], list,
-        );
-        let answer = checked.answer;
-        let judgement = checked.judgement;
-        let length = planned(rt, answer);
-        windows(rt, table);
-        if length <= list.len() {
-            line(rt, b"list", &list[0..length]);
-            line(rt, b"kept", &list[length..]);
-        }
-        say(rt, b"read ");
-        judged(rt, judgement);
-        return;
+// ---- print
+
+// An answer or a refusal, on a line.
+fn show<T: Display + Drop>(out: &mut impl Write, reply: Result<T, Refusal>) -> io::Result<()> {
+    match reply {
+        Ok(answer) => writeln!(out, "{answer}"),
+        Err(refusal) => writeln!(out, "{refusal}"),
     }
-    let judgement = checker::check(numbers[1], cages, table, lags, sets, list);
-    judged(rt, judgement);
-    windows(rt, table);
-    line(rt, b"list", list);
 }
 
-// A case's five tables, cut out of its numbers.
-fn cut(
-    rt: &impl Print,
-    numbers: &[i32; 1030],
-    cages: &mut [i32],
-    table: &mut [i32],
-    lags: &mut [i32],
-    sets: &mut [i32],
-    list: &mut [i32],
-)
-    requires { 8 + length cages.old + length table.old + length lags.old + length sets.old + length list.old ≤ 1030 }
-{
-    let w = 8 + cages.len();
-    let g = w + table.len();
-    let s = g + lags.len();
-    let b = s + sets.len();
-    copy(numbers, 8, cages);
-    copy(numbers, w, table);
-    copy(numbers, g, lags);
-    copy(numbers, s, sets);
-    copy(numbers, b, list);
-    call(rt, numbers, cages, table, lags, sets, list);
+// A title and words, on one line.
+fn line(out: &mut impl Write, title: &str, words: &[i32]) -> io::Result<()> {
+    write!(out, "{title}")?;
+    for word in words {
+        write!(out, " {word}")?;
+    }
+    writeln!(out)
 }
 
-// A case of n numbers, which has to be its header and five tables that fit the ones lent here.
-fn sized(
-    rt: &impl Print,
-    numbers: &[i32; 1030],
-    n: usize,
-    cages: &mut [i32],
-    table: &mut [i32],
-    lags: &mut [i32],
-    sets: &mut [i32],
-    list: &mut [i32],
-) -> bool {
-    let c = size(numbers[3]);
-    let w = size(numbers[4]);
-    let g = size(numbers[5]);
-    let s = size(numbers[6]);
-    let b = size(numbers[7]);
-    if cages.len() < c {
-        return false;
+// Each event's number and five words, a line each.
+fn windows(out: &mut impl Write, table: &[i32]) -> io::Result<()> {
+    for (y, event) in table.chunks_exact(5).enumerate() {
+        write!(out, "{y}")?;
+        line(out, "", event)?;
     }
-    if table.len() < w {
-        return false;
-    }
-    if lags.len() < g {
-        return false;
-    }
-    if sets.len() < s {
-        return false;
-    }
-    if list.len() < b {
-        return false;
-    }
-    if 1030 < n {
-        return false;
-    }
-    if n != 8 + c + w + g + s + b {
-        return false;
-    }
-    cut(
-        rt,
-        numbers,
-        &mut cages[..c],
-        &mut table[..w],
-        &mut lags[..g],
-        &mut sets[..s],
-        &mut list[..b],
+    Ok(())
+}
+
+// ---- call
+
+// What the planner writes is printed as the list, then what it leaves as it was, then what the reader says of that list.
+fn plan_case(alloc: Global, out: &mut impl Write, case: Case<'_>) -> io::Result<()> {
+    let mut table = case.windows.to_vec(alloc)?;
+    let mut buffer = case.list.to_vec(alloc)?;
+    let reply = plan_and_read(
+        case.horizon,
+        case.cages,
+        &mut table,
+        case.lags,
+        case.sets,
+        case.limit,
+        &mut buffer,
     );
-    true
+    show(out, reply.map(|checked| checked.answer))?;
+    windows(out, &table)?;
+    let length = reply.map_or(0, |checked| checked.answer.length);
+    if let Some((list, kept)) = buffer.split_at_checked(length) {
+        line(out, "list", list)?;
+        line(out, "kept", kept)?;
+    }
+    write!(out, "read ")?;
+    show(out, reply.map(|checked| checked.judgement))
 }
 
-fn case(rt: &impl Print, name: &[u8], words: &[u8]) {
-    say(rt, name);
-    say(rt, b"\n");
-    let mut numbers = [0i32; 1030];
-    let scan = scanner::feed(scanner::start(), words, &mut numbers);
+fn read_case(alloc: Global, out: &mut impl Write, case: Case<'_>) -> io::Result<()> {
+    let mut table = case.windows.to_vec(alloc)?;
+    let reply = check(
+        case.horizon,
+        case.cages,
+        &mut table,
+        case.lags,
+        case.sets,
+        case.list,
+    );
+    show(out, reply)?;
+    windows(out, &table)?;
+    line(out, "list", case.list)
+}
+
+fn run_case(alloc: Global, out: &mut impl Write, text: &[u8]) -> io::Result<()> {
+    let mut numbers = [0i32; MOST_NUMBERS];
+    let scan = scanner::feed(scanner::start(), text, &mut numbers);
     let Scan::Between(n) = scan else {
-        say(rt, b"not a case\n");
-        return;
+        return writeln!(out, "not a case");
     };
-    let mut cages = [0i32; 40];
-    let mut table = [0i32; 360];
-    let mut lags = [0i32; 800];
-    let mut sets = [0i32; 1200];
-    let mut list = [0i32; 1000];
-    if !sized(
-        rt, &numbers, n, &mut cages, &mut table, &mut lags, &mut sets, &mut list,
-    ) {
-        say(rt, b"not a case\n");
+    match numbers.get(..n).and_then(case_of) {
+        Some(case) if case.kind == 1 => plan_case(alloc, out, case),
+        Some(case) => read_case(alloc, out, case),
+        None => writeln!(out, "not a case"),
     }
 }
 
 // All cases. What stands before the first number sign is no case.
-fn all(rt: &impl Print, s: &[u8]) {
-    let mut at = find(s, 0, b'#');
-    while at < s.len() {
-        let words = find(s, at + 1, b'\n');
-        let next = find(s, words, b'#');
-        case(rt, &s[at..words], &s[words..next]);
-        at = next;
+fn run_all(alloc: Global, out: &mut impl Write, text: &[u8]) -> io::Result<()> {
+    let (_, mut rest) = before(text, b'#');
+    while let Some((_, case)) = rest.split_first() {
+        let (name, numbers) = before(case, b'\n');
+        let (numbers, next) = before(numbers, b'#');
+        out.write_all(b"#")?;
+        out.write_all(name)?;
+        writeln!(out)?;
+        run_case(alloc, out, numbers)?;
+        rest = next;
     }
+    out.flush()
 }
 
-// Reads until the space is full, the input ends or a read fails, and returns how many bytes it put at the start of the space.
-fn read_full(input: &mut impl Read, space: &mut [u8]) -> usize
-    ensures { result ≤ length space.new }
-{
-    let mut done = 0;
-    while done < space.len() {
-        let got = input.read(&mut space[done..]).unwrap_or(0);
-        if got == 0 {
-            break;
-        }
-        done += got;
-    }
-    done
+fn run(rt: &HostRuntime) -> io::Result<()> {
+    let alloc = rt.alloc();
+    let mut text = Vec::new(alloc);
+    let _ = rt.stdin().take(MOST_BYTES).read_to_end(&mut text);
+    let mut out = BufWriter::new(alloc, rt.stdout())?;
+    run_all(alloc, &mut out, &text)
 }
 
+// Whoever runs it compares what it printed, so a read or a write that fails is passed over.
 fn main(rt: HostRuntime) {
-    let mut space = [0u8; 65536];
-    let n = read_full(&mut rt.stdin(), &mut space);
-    all(&rt, &space[..n]);
+    let _ = run(&rt);
 }

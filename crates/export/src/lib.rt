@@ -10,13 +10,14 @@ ghost use Rattle.model.specs.Planner.{plan};
 ghost use Rattle.model.specs.Reader.{check};
 ghost use Rattle.propagator.specs.Plans.{reply_of as answer_reply};
 ghost use Rattle.checker.specs.Judgement.{reply_of as judgement_reply};
-ghost use Rattle.export.specs.Words.{numbers_of, taken, told, Small};
+ghost use Rattle.export.specs.Words.{numbers_of, told, Small};
 
 use checker::{Judgement, check};
 use propagator::plans::plan;
-use propagator::{Answer, Counts};
+use propagator::{Answer, Verdict};
+use questions::Refusal;
 
-// An answer in plain numbers: the refusal's number or 0, and the five words.
+// A reply in plain numbers: the refusal's number or 0, and the five words.
 #[derive(Clone, Copy)]
 pub struct Numbers {
     pub number: usize,
@@ -27,75 +28,77 @@ pub struct Numbers {
     pub length: usize,
 }
 
-// A call that was not refused.
-fn done(outcome: usize, c: Counts) -> Numbers
-    ensures { result ≡ taken outcome c.slips c.rounds c.length }
+const NONE: Numbers = Numbers {
+    number: 0,
+    place: 0,
+    outcome: 0,
+    slips: 0,
+    rounds: 0,
+    length: 0,
+};
+
+fn refused(r: Refusal) -> Numbers
+    ensures { result ≡ numbers_of (answer_reply (Err r)) }
 {
     Numbers {
-        number: 0,
-        place: 0,
-        outcome: outcome,
-        slips: c.slips,
-        rounds: c.rounds,
-        length: c.length,
+        number: r.question.number(),
+        place: r.place,
+        ..NONE
     }
 }
 
-fn refused(number: usize, place: usize) -> Numbers
-    ensures { result ≡ record { number = number; place = place; outcome = 0; slips = 0; rounds = 0; length = 0 } }
+// The planner's reply.
+fn planned(reply: Result<Answer, Refusal>) -> Numbers
+    ensures { result ≡ numbers_of (answer_reply reply) }
 {
-    Numbers {
-        number: number,
-        place: place,
-        outcome: 0,
-        slips: 0,
-        rounds: 0,
-        length: 0,
+    match reply {
+        Ok(a) => Numbers {
+            outcome: match a.verdict {
+                Verdict::Settled => 0,
+                Verdict::Conflict => 1,
+                Verdict::Stopped => 2,
+            },
+            slips: a.slips,
+            rounds: a.rounds,
+            length: a.length,
+            ..NONE
+        },
+        Err(r) => refused(r),
     }
 }
 
-// The planner's answer.
-fn planned(a: Answer) -> Numbers
-    ensures { result ≡ numbers_of (answer_reply a) }
+// The reader's reply: no counts.
+fn judged(reply: Result<Judgement, Refusal>) -> Numbers
+    ensures { result ≡ numbers_of (judgement_reply reply) }
 {
-    match a {
-        Answer::Settled(c) => done(0, c),
-        Answer::Conflict(c) => done(1, c),
-        Answer::Stopped(c) => done(2, c),
-        Answer::Refused(r) => refused(r.number, r.place),
-    }
-}
-
-// The reader's answer: no counts.
-fn judged(v: Judgement) -> Numbers
-    ensures { result ≡ numbers_of (judgement_reply v) }
-{
-    let none = Counts {
-        slips: 0,
-        rounds: 0,
-        length: 0,
-    };
-    match v {
-        Judgement::Open => done(3, none),
-        Judgement::Conflict => done(1, none),
-        Judgement::Refused(r) => refused(r.number, r.place),
+    match reply {
+        Ok(v) => Numbers {
+            outcome: match v {
+                Judgement::Open => 3,
+                Judgement::Conflict => 1,
+            },
+            ..NONE
+        },
+        Err(r) => refused(r),
     }
 }
 
 // Writes the five words, if there is room for five, and hands back the refusal's number or 0.
+#[tactic(auto, unfolding(crate::specs::Words::told))]
 fn tell(n: Numbers, words: &mut [i32]) -> i32
     requires { Small n }
     ensures value { result ≡ pos n.number }
     ensures words_after { words.new ≡ told n words.old }
 {
-    if words.len() < 5 {
-        return n.number as i32;
+    if 5 <= words.len() {
+        words[..5].copy_from_slice(&[
+            n.place as i32,
+            n.outcome as i32,
+            n.slips as i32,
+            n.rounds as i32,
+            n.length as i32,
+        ]);
     }
-    words[0] = n.place as i32;
-    words[1] = n.outcome as i32;
-    words[2] = n.slips as i32;
-    words[3] = n.rounds as i32;
-    words[4] = n.length as i32;
     n.number as i32
 }
 
@@ -117,8 +120,8 @@ pub extern "C" fn orthmuzi_plan(
     ensures windows { table.new ≡ (plan (call h cages.now table.old lags.now sets.now) limit buffer.old).table }
     ensures slips { buffer.new ≡ (plan (call h cages.now table.old lags.now sets.now) limit buffer.old).buffer }
 {
-    let a = plan(h, cages, table, lags, sets, limit, buffer);
-    tell(planned(a), words)
+    let reply = plan(h, cages, table, lags, sets, limit, buffer);
+    tell(planned(reply), words)
 }
 
 // The reader: number, answer words and window table, whatever words the list holds.
@@ -137,6 +140,6 @@ pub extern "C" fn orthmuzi_read(
     ensures answer { words.new ≡ told (numbers_of (check (call h cages.now table.old lags.now sets.now) list.now).reply) words.old }
     ensures windows { table.new ≡ (check (call h cages.now table.old lags.now sets.now) list.now).table }
 {
-    let v = check(h, cages, table, lags, sets, list);
-    tell(judged(v), words)
+    let reply = check(h, cages, table, lags, sets, list);
+    tell(judged(reply), words)
 }

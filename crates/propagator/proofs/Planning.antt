@@ -77,36 +77,34 @@ module _ (j : Call) (limit : ℤ) (buffer : List ℤ) (allowed : plan_questions 
           signed = λ y h. rw (← windows_board (events j) j.window_table b y h_min h, ← windows_board (events j) j.window_table b y h_max h, l.is) (signed y h);
         }
 
-  pub roomy_start : Roomy buffer 0 0 0
-  roomy_start =
-      let a = asked j (length buffer) passes in
-      record { small = a.room_high; trailer_fits = a.room_low; counted = omega arith; placed = omega arith }
+  pub room_fits : (3 ≤ length buffer) × (length buffer ≤ 1000000)
+  room_fits = let a = asked j (length buffer) passes in (a.room_low, a.room_high)
 
 -- ---- what the call leaves
 
-module _ {c : Hand} {l : Log} (limit : ℤ) (allowed : plan_questions (call_of c) limit (room l) ≡ pass) (loaded : Loaded c.events c.windows.now c.board.now.words) (none : state_at c.windows.now l ≡ start c.windows.now)
-    {c' : Hand} {l' : Log} {e : Ended} {fuel : ℕ} (r : Ran fuel c l c' l' e) (enough : fuel ≡ fuel_of (nat_abs limit) (room l)) where
+module _ {c : Hand} {l : Log} {buffer : List ℤ} (limit : ℤ) (lent : l.buffer.now ≡ buffer) (none : (t : List ℤ) → state_at t l ≡ start t) (allowed : plan_questions (call_of c) limit (length buffer) ≡ pass) (loaded : Loaded c.events c.windows.now c.board.now.words)
+    {c' : Hand} {l' : Log} {e : Ended} {fuel : ℕ} (r : Ran fuel c l c' l' e) (enough : fuel ≡ fuel_of (nat_abs limit) (length buffer)) where
   log_length : length (take l'.used l'.buffer.now) ≡ l'.used
   log_length = length-take-le l'.used l'.buffer.now (omega (arith, l'.roomy.trailer_fits))
 
-  run_is : record { verdict = verdict_of e.verdict; rounds = e.rounds; state = now c' l' } ≡ limited (nat_abs limit) (room l) (call_of c)
-  run_is = r.is ∙ rw (loaded.is, none, enough) (limited_is (nat_abs limit) (room l) (call_of c))
+  run_is : record { verdict = verdict_of e.verdict; rounds = e.rounds; state = now c' l' } ≡ limited (nat_abs limit) (length buffer) (call_of c)
+  run_is = r.is ∙ rw (none (table_of c.events c.windows.now c.board.now.words), loaded.is, enough, lent) (limited_is (nat_abs limit) (length buffer) (call_of c))
 
   -- With the trailer the list ends as it must, and words after it are the caller's.
-  module _ {words b buffer : List ℤ} {end : ℕ} (same : l'.buffer.now ≡ words) (same_board : c'.board.now.words ≡ b) (appended : Appended l'.used (trailer l'.slips l'.last) words buffer end) where
-    t : Appended l'.used (trailer l'.slips l'.last) l'.buffer.now buffer end
+  module _ {b words after : List ℤ} {end : ℕ} (same_board : c'.board.now.words ≡ b) (same : l'.buffer.now ≡ words) (appended : Appended l'.used (trailer l'.slips l'.last) words after end) where
+    t : Appended l'.used (trailer l'.slips l'.last) l'.buffer.now after end
     t = rw same appended
 
-    written_is : buffer ≡ take l'.used l'.buffer.now ++ (trailer l'.slips l'.last ++ drop (length (take l'.used l'.buffer.now) + 3) l.buffer.now)
+    written_is : after ≡ take l'.used l'.buffer.now ++ (trailer l'.slips l'.last ++ drop (length (take l'.used l'.buffer.now) + 3) buffer)
     written_is =
         let used = l'.used in
         let words = trailer l'.slips l'.last in
-        let after : drop (used + 3) l'.buffer.now ≡ drop (used + 3) l.buffer.now = drop_later l'.buffer.now l.buffer.now used (used + 3) (omega arith) r.grown.after in
-        let kept : drop end buffer ≡ drop (used + 3) l.buffer.now = t.rest ∙ rw t.place after in
-        sym (take-append-drop end buffer) ∙ rw (t.is, kept, log_length) (append_assoc (take used l'.buffer.now) words (drop (used + 3) l.buffer.now))
+        let rest : drop (used + 3) l'.buffer.now ≡ drop (used + 3) buffer = drop_later l'.buffer.now l.buffer.now used (used + 3) (omega arith) r.grown.after ∙ ap (drop (used + 3)) lent in
+        let kept : drop end after ≡ drop (used + 3) buffer = t.rest ∙ rw t.place rest in
+        sym (take-append-drop end after) ∙ rw (t.is, kept, log_length) (append_assoc (take used l'.buffer.now) words (drop (used + 3) buffer))
 
     pub outcome : {table : List ℤ} {a : Answer} → table ≡ table_of c.events c.windows.now b → a ≡ record { verdict = e.verdict; slips = l'.slips; rounds = e.rounds; length = end }
-        → Outcomes (plan (call_of c) limit l.buffer.now) table buffer (Ok a)
+        → Outcomes (plan (call_of c) limit buffer) table after (Ok a)
     unfolding plan
     outcome q s =
         let stays : state_of c'.events c'.windows.now c'.board.now.words l' ≡ state_of c.events c.windows.now c'.board.now.words l' = rw (events_are r.stays, ap (λ (j : Call). j.window_table) (call_is r.stays)) refl in

@@ -9,7 +9,7 @@ use crate::Answer;
 use crate::runs::{fuel, run};
 use questions::Refusal;
 use questions::asked::plan_questions;
-use rounds::{Log, Status};
+use rounds::Log;
 use slips::writer::Writer;
 use tables::{Board, Time};
 use turns::Call;
@@ -42,13 +42,7 @@ fn planned(
         lags,
         sets,
     };
-    let mut log = Log {
-        buffer: &mut *buffer,
-        used: 0,
-        slips: 0,
-        last: 0,
-        status: Status::Running,
-    };
+    let mut log = Log::new(buffer);
     let ended = run(&mut call, &mut log, most);
     let (used, slips, last) = (log.used, log.slips, log.last);
     let mut list = Writer {

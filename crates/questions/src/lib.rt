@@ -7,6 +7,8 @@ pub mod asked_sets; // asked_sets.rt: 31 to 33, to the set table
 ghost use Rattle.std.specs.Prelude.{◌≡◌};
 ghost use Rattle.questions.specs.Numbers.{number_of};
 
+use std::fmt;
+
 // A slip buffer or a list has 3 to 1,000,000 words.
 pub const LEAST_ROOM: usize = 3;
 
@@ -61,4 +63,11 @@ impl Question {
 pub struct Refusal {
     pub question: Question,
     pub place: usize,
+}
+
+// "refused", the question's number, the place.
+impl fmt::Display for Refusal {
+    fn fmt<W: fmt::Write>(&self, f: &mut fmt::Formatter<W>) -> fmt::Result {
+        write!(f, "refused {} {}", self.question.number(), self.place)
+    }
 }

@@ -8,7 +8,7 @@ use native.Mathlib.Decide.{ℕ_discrete}
 use native.Mathlib.Omega.{arith}
 use borrow.Author.Tests.{le-leb, lt-leb, not-true, not-false}
 use lib.IntN.{ℤ}
-use lib.ListN.{length, take, set, length-set}
+use lib.ListN.{length, take, drop, set, length-set}
 use lib.Seq.{length-take-le}
 use Rattle.integers.specs.Range.{Within}
 use Rattle.integers.proofs.Linear.{ints}
@@ -34,6 +34,9 @@ use Rattle.facts.specs.Quotes.{cites_of, says_of, Cites}
 use Rattle.facts.specs.declared.Citing.{Citing}
 use Rattle.slips.specs.Words.{Appended}
 use Rattle.slips.specs.Slip.{slip_of, Writes}
+use Rattle.slips.specs.declared.Header.{Header}
+use Rattle.slips.specs.declared.writing.Quoting.{Quoting}
+use Rattle.slips.specs.Telling.{written_by, Writable}
 use Rattle.slips.proofs.Filling.{same_premises}
 use Rattle.rounds.specs.Held.{Held}
 use Rattle.rounds.specs.State.{status_of, still, room, state_at, state_of, Leads, fixed, Of, Moves, Made}
@@ -193,12 +196,18 @@ written_after idle = refl
 written_after (narrows v) = refl
 written_after fails = refl
 
-module _ {n : ℕ} {W : Windows} {c : Citing} {e y : ℕ} (r : Rule) (x : Done) (l : Log) (writes : Writes n W c e y) where
+-- Words appended are so in the buffer by another name.
+pub appended_as : {at end : ℕ} {words before buffer x : List ℤ} → x ≡ buffer → Appended at words before buffer end → Appended at words before x end
+appended_as e a = rw e a
+
+module _ (h : Header) (q : Quoting) (l : Log) (writable : Writable h q) where
   abbrev slip : Explanation
-  slip = slip_of n W c r e y x
+  slip = written_by h q
 
   pub few_facts : length slip.premises ≤ 256
-  few_facts = omega (arith, premise_list_length n (cites_of c W) (says_of c W), writes.ranged.few)
+  few_facts =
+      let W = board q.board.now.words in
+      omega (arith, premise_list_length q.events (cites_of q.cited W) (says_of q.cited W), writable.ranged.few)
 
   log_size : length (take l.used l.buffer.now) ≡ l.used
   log_size = length-take-le l.used l.buffer.now (omega (arith, l.roomy.trailer_fits))
@@ -208,39 +217,37 @@ module _ {n : ℕ} {W : Windows} {c : Citing} {e y : ℕ} (r : Rule) (x : Done) 
     long = slip_words_length slip ∙ rw count
 
     -- It does not fit.
-    pub stop_entered : {l' : Log} → room l < l.used + (10 + 3 * m)
-        → (l'.buffer.ghost_name ≡ l.buffer.ghost_name) × (l'.buffer.now ≡ l.buffer.now) × (l'.used ≡ l.used) × (l'.slips ≡ l.slips) × (l'.last ≡ l.last) × (l'.status ≡ Stopped)
-        → Entered slip (status_after (effect_of x)) l l'
-    stop_entered {l'} h g =
-        let no = room_no (room l) (take l.used l.buffer.now) (slip_words slip) l.used m log_size long h in
+    pub stop_entered : {l' : Log} → room l < l.used + (10 + 3 * m) → (l'.buffer.ghost_name ≡ l.buffer.ghost_name) × (l'.buffer.now ≡ l.buffer.now) × (l'.used ≡ l.used) × (l'.slips ≡ l.slips) × (l'.last ≡ l.last) × (l'.status ≡ Stopped)
+        → Entered slip (status_after (effect_of h.effect)) l l'
+    stop_entered {l'} over g =
+        let no = room_no (room l) (take l.used l.buffer.now) (slip_words slip) l.used m log_size long over in
         let status = ap status_of g.5 in
         record {
           is = λ t u. state_is (ap (λ s. cond (written s) u t) status) (ap (take l'.used) g.1 ∙ ap (λ i. take i l.buffer.now) g.2) g.3 g.4 status ∙ rw no;
           grown = record {
             lent = g.0;
             same = ap length g.1;
-            after = rw g.1;
+            after = ap (drop l'.used) g.1;
             longer = omega (arith, g.2);
             more = omega (arith, g.3);
           };
         }
 
     -- It fits and is written.
-    pub slip_room : {end : ℕ} {buffer : List ℤ} → l.used + (10 + 3 * m) ≤ room l → Appended l.used (slip_words slip) l.buffer.now buffer end → (l.used + 7 ≤ end) × (end + 3 ≤ length buffer)
-    slip_room h a = (omega (arith, long, a.place), omega (arith, long, a.place, a.same))
+    pub slip_place : {words : List ℤ} {end : ℕ} → l.used + (10 + 3 * m) ≤ room l → Appended l.used (slip_words slip) l.buffer.now words end → (l.used + 7 ≤ end) × (end + 3 ≤ room l)
+    slip_place fit a = (omega (arith, long, a.place), omega (arith, long, a.place))
 
-    pub slip_entered : {end : ℕ} {w : List ℤ} {l₁ l' : Log} → l.used + (10 + 3 * m) ≤ room l → Appended l.used (slip_words slip) l.buffer.now w end → Counted end (status_after (effect_of x)) l₁ l'
-        → (l₁.buffer.ghost_name ≡ l.buffer.ghost_name) × (l₁.used ≡ l.used) × (l₁.slips ≡ l.slips) → l₁.buffer.now ≡ w
-        → Entered slip (status_after (effect_of x)) l l'
-    slip_entered {end} {w} {l₁} {l'} h a k g s =
-        let yes = room_yes (room l) (take l.used l.buffer.now) (slip_words slip) l.used m log_size long h in
-        let went = ap written k.status ∙ written_after (effect_of x) in
+    pub slip_entered : {end : ℕ} {l₁ l' : Log} → l.used + (10 + 3 * m) ≤ room l → Appended l.used (slip_words slip) l.buffer.now l₁.buffer.now end → (l₁.buffer.ghost_name ≡ l.buffer.ghost_name) × (l₁.used ≡ l.used) × (l₁.slips ≡ l.slips)
+        → Counted end (status_after (effect_of h.effect)) l₁ l' → Entered slip (status_after (effect_of h.effect)) l l'
+    slip_entered {end} {l₁} {l'} fit a g k =
+        let yes = room_yes (room l) (take l.used l.buffer.now) (slip_words slip) l.used m log_size long fit in
+        let went = ap written k.status ∙ written_after (effect_of h.effect) in
         record {
-          is = λ t u. state_is (ap (λ b. cond b u t) went) (ap (take l'.used) (k.words ∙ s) ∙ ap (λ i. take i w) k.used ∙ a.is) (k.slips ∙ ap (λ i. i + 1) g.2) (k.last ∙ g.1 ∙ sym log_size) k.status ∙ rw yes;
+          is = λ t u. state_is (ap (λ b. cond b u t) went) (ap (take l'.used) k.words ∙ ap (λ i. take i l₁.buffer.now) k.used ∙ a.is) (k.slips ∙ ap (λ i. i + 1) g.2) (k.last ∙ g.1 ∙ sym log_size) k.status ∙ rw yes;
           grown = record {
             lent = k.lent ∙ g.0;
-            same = ap length (k.words ∙ s) ∙ a.same;
-            after = rw (k.used, k.words, s) a.rest;
+            same = ap length k.words ∙ a.same;
+            after = rw (k.used, k.words) a.rest;
             longer = omega (arith, long, a.place, k.used);
             more = omega (arith, k.slips, g.2);
           };

@@ -1,13 +1,14 @@
 // The list so far: how the call stands, a slip entered.
-ghost use Rattle.std.specs.Prelude.{◌+◌, ◌*◌, ◌≡◌, ◌≤◌};
+ghost use Rattle.std.specs.Prelude.{◌≡◌, List, ◌+◌, ◌≤◌, ℤ, length};
+ghost use Rattle.model.specs.Rounds.{start};
 ghost use Rattle.rules.specs.Values.{effect_of};
 ghost use Rattle.slips.specs.Telling.{written_by, Writable};
-ghost use Rattle.rounds.specs.State.{status_of, still, room};
+ghost use Rattle.rounds.specs.State.{status_of, still, room, state_at};
 ghost use Rattle.rounds.specs.Attempts.{status_after, written, Counted, Entered};
 
 use crate::{Log, Status};
 use rules::Effect;
-use slips::appending::{append_slip, put_slip};
+use slips::writer::Writer;
 use slips::writing::Quoting;
 use slips::{Header, LONGEST_WITH_TRAILER, TRAILER_WORDS, slip_length};
 
@@ -21,7 +22,23 @@ fn status_after(x: Effect) -> Status
     }
 }
 
-impl Log<'_> {
+impl<'a> Log<'a> {
+    // The list in a lent buffer, no slip yet.
+    pub fn new(buffer: &'a mut [i32]) -> Log<'a>
+        requires { (3 ≤ length buffer.old) × (length buffer.old ≤ 1000000) }
+        ensures same_buffer { result.buffer.ghost_name ≡ buffer.entry.ghost_name }
+        ensures words { result.buffer.now ≡ buffer.old }
+        ensures begun { (t : List ℤ) → state_at t result ≡ start t }
+    {
+        Log {
+            buffer,
+            used: 0,
+            slips: 0,
+            last: 0,
+            status: Status::Running,
+        }
+    }
+
     // Does the call go on?
     pub fn is_running(&self) -> bool
         ensures { result ≡ still (status_of self.now.status) }
@@ -36,7 +53,7 @@ impl Log<'_> {
         self.status != Status::Stopped
     }
 
-    // One slip more, which ends at a place.
+    // The slip in the buffer behind the list counted, which ends at a place and has an effect.
     fn count(&mut self, end: usize, x: Effect)
         requires { (self.old.used + 7 ≤ end) × (end + 3 ≤ room self.old) }
         ensures { Counted end (status_after (effect_of x)) self.old self.new }
@@ -52,19 +69,23 @@ impl Log<'_> {
         requires { Writable header facts.now }
         ensures { Entered (written_by header facts.now) (status_after (effect_of header.effect)) self.old self.new }
     {
-        let buffer = &mut *self.buffer;
-        let used = self.used;
-        if used + LONGEST_WITH_TRAILER <= buffer.len() {
-            let end = put_slip(buffer, used, header, facts);
+        let room = self.buffer.len();
+        let at = self.used;
+        let words = &mut *self.buffer;
+        let mut list = Writer { words, at };
+        if list.at + LONGEST_WITH_TRAILER <= room {
+            list.put_slip(header, facts);
+            let end = list.at;
             self.count(end, header.effect);
             return;
         }
         let count = facts.count();
-        if used + slip_length(count) + TRAILER_WORDS > buffer.len() {
+        if list.at + slip_length(count) + TRAILER_WORDS > room {
             self.status = Status::Stopped;
             return;
         }
-        let end = append_slip(buffer, used, header, facts, count);
+        list.append_slip(header, facts, count);
+        let end = list.at;
         self.count(end, header.effect);
     }
 }

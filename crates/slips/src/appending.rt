@@ -3,7 +3,6 @@ ghost use Rattle.std.specs.Prelude.{◌≡◌, [], ◌∷◌, ◌+◌, ◌*◌, 
 ghost use Rattle.model.specs.Slips.{slip_words, trailer, concluded_kind, concluded_value};
 ghost use Rattle.rules.specs.Values.{rule_of, effect_of};
 ghost use Rattle.rules.specs.Numbers.{number_of};
-ghost use Rattle.slips.specs.Words.{Appended};
 ghost use Rattle.slips.specs.Writing.{HasRoom, Wrote};
 ghost use Rattle.slips.specs.Telling.{written_by, Writable};
 
@@ -98,26 +97,4 @@ impl<'a> Writer<'a> {
     {
         self.put([slips as i32, last as i32, MARK as i32]);
     }
-}
-
-// A slip appended to a lent buffer at a place; the next place.
-pub fn append_slip(buffer: &mut [i32], at: usize, h: Header, q: &Quoting, facts: usize) -> usize
-    requires { Writable h q.now
-        × (facts ≡ length (written_by h q.now).premises)
-        × (at + (7 + 3 * facts) ≤ length buffer.old) }
-    ensures { Appended at (slip_words (written_by h q.now)) buffer.old buffer.new result }
-{
-    let mut list = Writer { words: buffer, at };
-    list.append_slip(h, q, facts);
-    list.at
-}
-
-// The same where there is room for as many facts as there can be.
-pub fn put_slip(buffer: &mut [i32], at: usize, h: Header, q: &Quoting) -> usize
-    requires { Writable h q.now × (at + 775 ≤ length buffer.old) }
-    ensures { Appended at (slip_words (written_by h q.now)) buffer.old buffer.new result }
-{
-    let mut list = Writer { words: buffer, at };
-    list.put_slip(h, q);
-    list.at
 }

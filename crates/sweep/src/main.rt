@@ -3,202 +3,38 @@
 // A record beyond the limits, an unknown one, or a stream cut short ends the program with a line that says so.
 #![tactic(auto)]
 
-mod answers;
-mod input;
-mod lines;
-mod words;
-
-ghost use Rattle.std.specs.Prelude.{◌≤◌};
+mod answers; // answers.rt: the line of a record
+mod records; // records.rt: the records of a stream
+mod words; // words.rt: words of 32 bits and their checksum
 
 use answers::answer;
-use input::{Filled, Input, Next, fill, fill_five, take_word};
-use lines::{flush, text};
-use std::io::Read;
+use records::next_record;
+use std::alloc::Global;
+use std::io::{BufReader, BufWriter, Read, Write};
 
-// Where the program stands in its input and in its output, and whether there is more to answer.
-#[derive(Clone, Copy)]
-struct State {
-    input: Input,
-    at: usize,
-    more: bool,
+// Answers records until the one that ends the stream.
+fn answer_all(alloc: Global, input: &mut impl Read, output: &mut impl Write) -> anyhow::Result<()> {
+    for _ in 0..u64::MAX {
+        let Some(record) = next_record(alloc, input)? else {
+            break;
+        };
+        answer(output, record)?;
+    }
+    Ok(())
 }
 
-// The last line; all that is left is written out.
-fn stop(rt: &impl Print, out: &mut [u8; 65536], s: State, line: &[u8]) -> State
-    requires { s.at ≤ 65536 }
-    ensures { result.at ≤ 65536 }
-{
-    let input = s.input;
-    let o = text(rt, out, s.at, line);
-    flush(rt, out, o);
-    State {
-        input: input,
-        at: 0,
-        more: false,
+// Whoever runs the program compares what it wrote, so a write that fails is passed over.
+fn run(rt: &HostRuntime) -> anyhow::Result<()> {
+    let alloc = rt.alloc();
+    let mut input = BufReader::with_capacity(alloc, 65536, rt.stdin())?;
+    let mut output = BufWriter::with_capacity(alloc, 65536, rt.stdout())?;
+    if let Err(why) = answer_all(alloc, &mut input, &mut output) {
+        writeln!(output, "{why}")?;
     }
-}
-
-// A length; a negative word is beyond every limit.
-fn size(x: i32) -> usize {
-    if x < 0 {
-        return usize::MAX;
-    }
-    x as usize
-}
-
-// The five tables of a record, whose lengths are known to be within the limits.
-fn record(
-    rt: &impl Print,
-    stdin: &mut impl Read,
-    piece: &mut [u8; 65536],
-    out: &mut [u8; 65536],
-    s: State,
-    kind: i32,
-    head: &[i32; 7],
-    cages: &mut [i32],
-    table: &mut [i32],
-    lags: &mut [i32],
-    sets: &mut [i32],
-    list: &mut [i32],
-) -> State
-    requires { s.at ≤ 65536 }
-    ensures { result.at ≤ 65536 }
-{
-    let input = s.input;
-    let filled = fill_five(stdin, piece, input, cages, table, lags, sets, list);
-    let Filled::All(input) = filled else {
-        return stop(rt, out, s, b"the stream is cut short\n");
-    };
-    let o = answer(
-        rt, out, s.at, kind, head[0], head[1], cages, table, lags, sets, list,
-    );
-    State {
-        input: input,
-        at: o,
-        more: true,
-    }
-}
-
-// A record's lengths are held against the limits, which are the lengths of the tables lent here.
-fn sized(
-    rt: &impl Print,
-    stdin: &mut impl Read,
-    piece: &mut [u8; 65536],
-    out: &mut [u8; 65536],
-    s: State,
-    kind: i32,
-    head: &[i32; 7],
-    cages: &mut [i32],
-    table: &mut [i32],
-    lags: &mut [i32],
-    sets: &mut [i32],
-    list: &mut [i32],
-) -> State
-    requires { s.at ≤ 65536 }
-    ensures { result.at ≤ 65536 }
-{
-    let c = size(head[2]);
-    if cages.len() < c {
-        return stop(rt, out, s, b"a cage table is too long\n");
-    }
-    let w = size(head[3]);
-    if table.len() < w {
-        return stop(rt, out, s, b"a window table is too long\n");
-    }
-    let g = size(head[4]);
-    if lags.len() < g {
-        return stop(rt, out, s, b"a lag table is too long\n");
-    }
-    let t = size(head[5]);
-    if sets.len() < t {
-        return stop(rt, out, s, b"a set table is too long\n");
-    }
-    let b = size(head[6]);
-    if list.len() < b {
-        return stop(rt, out, s, b"a list is too long\n");
-    }
-    record(
-        rt,
-        stdin,
-        piece,
-        out,
-        s,
-        kind,
-        head,
-        &mut cages[..c],
-        &mut table[..w],
-        &mut lags[..g],
-        &mut sets[..t],
-        &mut list[..b],
-    )
-}
-
-fn is_call(kind: i32) -> bool {
-    kind == 1 || kind == 2
-}
-
-fn step(
-    rt: &impl Print,
-    stdin: &mut impl Read,
-    piece: &mut [u8; 65536],
-    out: &mut [u8; 65536],
-    s: State,
-    cages: &mut [i32; 40],
-    table: &mut [i32; 360],
-    lags: &mut [i32; 800],
-    sets: &mut [i32; 1200],
-    list: &mut [i32; 20000],
-) -> State
-    requires { s.at ≤ 65536 }
-    ensures { result.at ≤ 65536 }
-{
-    let input = s.input;
-    let first = take_word(stdin, piece, input);
-    let Next::Word(kind, input) = first else {
-        return stop(rt, out, s, b"the stream is cut short\n");
-    };
-    if kind == 0 {
-        return stop(rt, out, s, b"");
-    }
-    if !is_call(kind) {
-        return stop(rt, out, s, b"an unknown kind of record\n");
-    }
-    let mut head = [0i32; 7];
-    let filled = fill(stdin, piece, input, &mut head);
-    let Filled::All(input) = filled else {
-        return stop(rt, out, s, b"the stream is cut short\n");
-    };
-    let s = State {
-        input: input,
-        at: s.at,
-        more: true,
-    };
-    sized(
-        rt, stdin, piece, out, s, kind, &head, cages, table, lags, sets, list,
-    )
+    output.flush()?;
+    Ok(())
 }
 
 fn main(rt: HostRuntime) {
-    let mut stdin = rt.stdin();
-    let mut piece = [0u8; 65536];
-    let mut out = [0u8; 65536];
-    let mut cages = [0i32; 40];
-    let mut table = [0i32; 360];
-    let mut lags = [0i32; 800];
-    let mut sets = [0i32; 1200];
-    let mut list = [0i32; 20000];
-    let mut s = State {
-        input: Input { at: 0, end: 0 },
-        at: 0,
-        more: true,
-    };
-    for _ in 0..u64::MAX {
-        s = step(
-            &rt, &mut stdin, &mut piece, &mut out, s, &mut cages, &mut table, &mut lags, &mut sets,
-            &mut list,
-        );
-        if !s.more {
-            break;
-        }
-    }
+    let _ = run(&rt);
 }

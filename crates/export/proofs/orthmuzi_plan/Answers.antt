@@ -7,7 +7,7 @@ use Rattle.export.proofs.orthmuzi_plan.Goals as goal
 
 pub tell-requires : goal.tell-requires
 tell-requires c =
-    let a = c.plan-a.ensures.answer in
+    let a = c.plan-reply.ensures.answer in
     let same = to_z-of_z c.ranges.h in
     let bound = to_z-of_z c.ranges.limit in
     rw (c.planned.ensures, a, same, bound)

@@ -7,7 +7,7 @@ use Rattle.export.proofs.orthmuzi_read.Goals as goal
 
 pub tell-requires : goal.tell-requires
 tell-requires c =
-    let a = c.check-v.ensures.answer in
+    let a = c.check-reply.ensures.answer in
     let same = to_z-of_z c.ranges.h in
     rw (c.judged.ensures, a, same)
     (check_small (call c.args.h c.args.cages.now c.args.table.now c.args.lags.now c.args.sets.now) c.args.list.now)

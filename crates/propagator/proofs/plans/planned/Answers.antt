@@ -1,8 +1,8 @@
 -- `propagator::plans::planned` loads the board, runs, appends the trailer and writes the windows back. Assumes nothing.
-use mathlib.Core.Path.{◌≡◌, refl}
+use mathlib.Core.Path.{◌≡◌, refl, ◌∙◌}
 use Rattle.std.proofs.Common.{rules}
 use Rattle.turns.proofs.Turning.{lent_is}
-use Rattle.propagator.proofs.Planning.{limit_low, whole_table, few, works_start, held_start, roomy_start, outcome}
+use Rattle.propagator.proofs.Planning.{limit_low, whole_table, few, works_start, held_start, room_fits, outcome}
 use Rattle.integers.proofs.Linear.{back32}
 use Rattle.propagator.proofs.plans.planned.Goals as goal
 
@@ -20,13 +20,13 @@ invariant_of-call c =
       works = works_start _ c.args.limit c.args.buffer.now c.requires c.load.ensures;
     }
 
-pub invariant_of-log : goal.invariant_of-log
-invariant_of-log c = record { roomy = roomy_start _ c.args.limit c.args.buffer.now c.requires }
+pub new-log-requires : goal.new-log-requires
+new-log-requires c = room_fits _ c.args.limit c.args.buffer.now c.requires
 
 pub returns : goal.returns
 returns c =
     let r = c.run-ended in
-    let lent : r.new.log.buffer.ghost_name ≡ _ = r.ensures.grown.lent in
+    let lent : r.new.log.buffer.ghost_name ≡ _ = r.ensures.grown.lent ∙ c.new-log.ensures.same_buffer in
     let lent_board : r.new.call.board.ghost_name ≡ _ = lent_is r.ensures.stays in
-    let h = outcome c.args.limit c.requires c.load.ensures refl r.ensures (rw (back32 c.args.limit (search)) at c.fuel-most.ensures) (search rules) (search rules) c.append_trailer.ensures.words.appended c.unload.ensures refl in
+    let h = outcome c.args.limit c.new-log.ensures.words c.new-log.ensures.begun c.requires c.load.ensures r.ensures (rw (back32 c.args.limit (search)) at c.fuel-most.ensures) (search rules) (search rules) c.append_trailer.ensures.words.appended c.unload.ensures refl in
     search (rules, h)

@@ -1,42 +1,41 @@
 -- `rounds::Log::enter` writes a slip that fits, or stops the call. Assumes nothing.
 use mathlib.Core.Path.{refl}
+use Rattle.std.proofs.Common.{rules}
 use native.Mathlib.Omega.{arith}
-use Rattle.rules.specs.Values.{rule_of}
-use Rattle.rounds.proofs.Trying.{few_facts, stop_entered, slip_room, slip_entered}
+use Rattle.rounds.proofs.Trying.{few_facts, stop_entered, slip_place, appended_as, slip_entered}
 use Rattle.rounds.proofs.Log.enter.Goals as goal
 
 pub count-requires : goal.count-requires
 count-requires c =
-    let h = c.args.header in
-    let few = few_facts (rule_of h.rule) h.effect c.args.self.now c.requires in
-    slip_room (rule_of h.rule) h.effect c.args.self.now c.requires refl (omega arith) c.put_slip-end.ensures
+    let a = c.args in
+    let few = few_facts a.header a.facts.now a.self.now c.requires in
+    let at = slip_place a.header a.facts.now a.self.now c.requires refl (omega arith) c.put_slip.ensures.words.appended in (omega arith, search rules)
 
-pub returns-then-used-buffer : goal.returns-then-used-buffer
-returns-then-used-buffer c =
-    let h = c.args.header in
-    let few = few_facts (rule_of h.rule) h.effect c.args.self.now c.requires in
-    slip_entered (rule_of h.rule) h.effect c.args.self.now c.requires refl (omega arith) c.put_slip-end.ensures c.count.ensures (refl, refl, refl) refl
+pub returns-then-list-room : goal.returns-then-list-room
+returns-then-list-room c =
+    let a = c.args in
+    let few = few_facts a.header a.facts.now a.self.now c.requires in
+    slip_entered a.header a.facts.now a.self.now c.requires refl (omega arith) (appended_as (search rules) c.put_slip.ensures.words.appended) (refl, refl, refl) c.count.ensures
 
 pub slip_length-requires : goal.slip_length-requires
-slip_length-requires c = let h = c.args.header in omega (arith, few_facts (rule_of h.rule) h.effect c.args.self.now c.requires, c.count-count.ensures)
+slip_length-requires c = omega (arith, few_facts c.args.header c.args.facts.now c.args.self.now c.requires)
 
-pub overflow_add-used-2 : goal.overflow_add-used-2
-overflow_add-used-2 c = let h = c.args.header in omega (arith, few_facts (rule_of h.rule) h.effect c.args.self.now c.requires, c.count-count.ensures, c.slip_length.ensures)
+pub overflow_add-list-2 : goal.overflow_add-list-2
+overflow_add-list-2 c = omega (arith, few_facts c.args.header c.args.facts.now c.args.self.now c.requires)
 
-pub overflow_add-used-3 : goal.overflow_add-used-3
-overflow_add-used-3 c = let h = c.args.header in omega (arith, few_facts (rule_of h.rule) h.effect c.args.self.now c.requires, c.count-count.ensures, c.slip_length.ensures)
+pub overflow_add-list-3 : goal.overflow_add-list-3
+overflow_add-list-3 c = omega (arith, few_facts c.args.header c.args.facts.now c.args.self.now c.requires)
 
-pub returns-then-used-slip_length : goal.returns-then-used-slip_length
-returns-then-used-slip_length c =
-    let h = c.args.header in
-    stop_entered (rule_of h.rule) h.effect c.args.self.now c.requires c.count-count.ensures (omega (arith, c.slip_length.ensures)) (refl, refl, refl, refl, refl, refl)
+pub returns-then-list-slip_length : goal.returns-then-list-slip_length
+returns-then-list-slip_length c =
+    stop_entered c.args.header c.args.facts.now c.args.self.now c.requires c.count-count.ensures (omega arith) (refl, refl, refl, refl, refl, refl)
 
 pub count-requires-2 : goal.count-requires-2
 count-requires-2 c =
-    let h = c.args.header in
-    slip_room (rule_of h.rule) h.effect c.args.self.now c.requires c.count-count.ensures (omega (arith, c.slip_length.ensures)) c.append_slip-end.ensures
+    let a = c.args in
+    let at = slip_place a.header a.facts.now a.self.now c.requires c.count-count.ensures (omega arith) c.append_slip.ensures.words.appended in (omega arith, search rules)
 
 pub returns : goal.returns
 returns c =
-    let h = c.args.header in
-    slip_entered (rule_of h.rule) h.effect c.args.self.now c.requires c.count-count.ensures (omega (arith, c.slip_length.ensures)) c.append_slip-end.ensures c.count-2.ensures (refl, refl, refl) refl
+    let a = c.args in
+    slip_entered a.header a.facts.now a.self.now c.requires c.count-count.ensures (omega arith) (appended_as (search rules) c.append_slip.ensures.words.appended) (refl, refl, refl) c.count-2.ensures
