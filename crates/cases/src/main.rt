@@ -14,15 +14,33 @@ use std::fmt::Display;
 use std::io;
 use std::io::{BufWriter, Read, Write};
 
-// The program reads no more bytes than these, and a case has no more numbers.
+// The program reads no more bytes.
 const MOST_BYTES: u64 = 65536;
 
+// A case has no more numbers.
 const MOST_NUMBERS: usize = 1030;
+
+// Who is called: the planner by 1, else the reader.
+#[derive(Clone, Copy)]
+enum Called {
+    Planner,
+    Reader,
+}
+
+impl From<i32> for Called {
+    fn from(kind: i32) -> Called {
+        if kind == 1 {
+            Called::Planner
+        } else {
+            Called::Reader
+        }
+    }
+}
 
 // A case: who is called, and with which numbers and tables.
 #[derive(Clone, Copy)]
 struct Case<'a> {
-    kind: i32,
+    called: Called,
     horizon: i32,
     limit: i32,
     cages: &'a [i32],
@@ -58,7 +76,7 @@ fn case_of(numbers: &[i32]) -> Option<Case<'_>> {
     let (sets, words) = table(words, sets, 1200)?;
     let (list, words) = table(words, list, 1000)?;
     words.is_empty().then_some(Case {
-        kind,
+        called: Called::from(kind),
         horizon,
         limit,
         cages,
@@ -123,6 +141,7 @@ fn plan_case(alloc: Global, out: &mut impl Write, case: Case<'_>) -> io::Result<
     show(out, reply.map(|checked| checked.judgement))
 }
 
+// The reader's answer, then the windows and the list.
 fn read_case(alloc: Global, out: &mut impl Write, case: Case<'_>) -> io::Result<()> {
     let mut table = case.windows.to_vec(alloc)?;
     let reply = check(
@@ -138,16 +157,19 @@ fn read_case(alloc: Global, out: &mut impl Write, case: Case<'_>) -> io::Result<
     line(out, "list", case.list)
 }
 
+// One case. The scanner fills a lent table and says how many numbers stand there: so the two stand side by side.
 fn run_case(alloc: Global, out: &mut impl Write, text: &[u8]) -> io::Result<()> {
     let mut numbers = [0i32; MOST_NUMBERS];
     let scan = scanner::feed(scanner::start(), text, &mut numbers);
     let Scan::Between(n) = scan else {
         return writeln!(out, "not a case");
     };
-    match numbers.get(..n).and_then(case_of) {
-        Some(case) if case.kind == 1 => plan_case(alloc, out, case),
-        Some(case) => read_case(alloc, out, case),
-        None => writeln!(out, "not a case"),
+    let Some(case) = numbers.get(..n).and_then(case_of) else {
+        return writeln!(out, "not a case");
+    };
+    match case.called {
+        Called::Planner => plan_case(alloc, out, case),
+        Called::Reader => read_case(alloc, out, case),
     }
 }
 
@@ -166,6 +188,7 @@ fn run_all(alloc: Global, out: &mut impl Write, text: &[u8]) -> io::Result<()> {
     out.flush()
 }
 
+// Whoever runs the program compares what it printed, so a read or a write that fails is passed over.
 fn run(rt: &HostRuntime) -> io::Result<()> {
     let alloc = rt.alloc();
     let mut text = Vec::new(alloc);
@@ -174,7 +197,6 @@ fn run(rt: &HostRuntime) -> io::Result<()> {
     run_all(alloc, &mut out, &text)
 }
 
-// Whoever runs it compares what it printed, so a read or a write that fails is passed over.
 fn main(rt: HostRuntime) {
     let _ = run(&rt);
 }

@@ -48,7 +48,7 @@ pub struct Tail {
 
 // ---- the trailer
 
-// Is the last word 4207 and the count not negative?
+// 12. Is the last word 4207 and the count not negative?
 fn is_marked(list: &[i32]) -> bool
     requires { 3 ≤ length list.now }
     ensures { result ≡ marked list.now }
@@ -57,7 +57,7 @@ fn is_marked(list: &[i32]) -> bool
     word_is(trailer.mark, MARK) && not_negative(trailer.slips)
 }
 
-// Do the slips end at the trailer, its second word where the last begins?
+// 19. Do the slips end at the trailer, its second word where the last begins?
 fn ends_right(list: &[i32], tail: Tail) -> bool
     requires { (3 ≤ length list.now) × (tail.last < 2147483648) }
     ensures { result ≡ ends_right list.now tail.after tail.last }
@@ -81,7 +81,7 @@ fn closing(list: &[i32], tail: Tail) -> Result<Judgement, Refusal>
 
 // ---- the call
 
-// The slips and the ending, over the board of the windows sent in. Accepted, the board holds the windows narrowed.
+// 13 to 19 over the board of the windows sent in. Accepted, the board holds the windows narrowed.
 fn judge_slips(b: &mut Board, c: &Call, list: &[i32]) -> Result<Judgement, Refusal>
     requires { Called c.now b.old.words × Trailed list.now }
     ensures { Judges
@@ -95,7 +95,8 @@ fn judge_slips(b: &mut Board, c: &Call, list: &[i32]) -> Result<Judgement, Refus
     closing(list, tail)
 }
 
-// A call whose questions up to the trailer's passed. The windows are stored once, at the end, and only if the whole list is accepted.
+// 13 to 19 of a call whose questions up to 12 passed. The windows are stored once, at the end, and only if the whole list is accepted.
+// The tables stand one by one, since the window table is written where `Call` only reads it.
 fn judge(
     h: Time,
     cages: &[i32],
@@ -136,6 +137,7 @@ fn judge(
 
 // The slip reader: whatever words the list holds, it is accepted, the windows narrowed, or refused by number and place, no word changed.
 // It rules out a reader that accepts every list (accepts_every_list) and one that leaves a narrowed window behind (narrowed_window_left).
+// The tables stand one by one, as the C interface lends them.
 #[tactic(auto, using(crate::proofs::Judging::room_there), unfolding(model::specs::Reader::check))]
 pub fn check(
     h: i32,

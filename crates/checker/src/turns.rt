@@ -30,7 +30,7 @@ fn apply(b: &mut Board, n: usize, s: &Slip) -> bool
     false
 }
 
-// The questions to the slip at p, and its narrowing made; left slips follow it.
+// 13 to 18 of the slip at p, with its narrowing made; left slips follow it.
 fn take_slip(
     b: &mut Board,
     c: &Call,
@@ -52,7 +52,7 @@ fn take_slip(
     })
 }
 
-// The questions to count slips in turn, each narrowing made before the next slip.
+// 13 to 18 of count slips in turn, each narrowing made before the next slip.
 pub fn read_slips(
     b: &mut Board,
     c: &Call,

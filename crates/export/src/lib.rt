@@ -28,6 +28,7 @@ pub struct Numbers {
     pub length: usize,
 }
 
+// No refusal, and five words of 0.
 const NONE: Numbers = Numbers {
     number: 0,
     place: 0,
@@ -37,6 +38,7 @@ const NONE: Numbers = Numbers {
     length: 0,
 };
 
+// A refusal's number and place.
 fn refused(r: Refusal) -> Numbers
     ensures { result ≡ numbers_of (answer_reply (Err r)) }
 {

@@ -61,6 +61,7 @@ fn planned(
 
 // The planner with a round limit, 0 for none: the reply, and every word of the window table and the slip buffer, as the papers say. A refusal changes no lent word.
 // It rules out a planner that writes no slip (no_slip) and one that answers conflict always (conflict_always).
+// The tables stand one by one, as the C interface lends them.
 #[tactic(auto, unfolding(model::specs::Planner::plan))]
 pub fn plan(
     h: i32,

@@ -5,8 +5,8 @@ use mathlib.Core.List.{List}
 use Prim.Native.Nat.{ℕ, ◌≤◌}
 use native.Mathlib.Omega.{arith}
 use lib.IntN.{ℤ}
-use Rattle.std.specs.Prelude.{Result, Ok, Err}
 use lib.ListN.{length, take}
+use Rattle.std.specs.Prelude.{Result, Ok, Err}
 use Rattle.model.specs.Job.{Job}
 use Rattle.model.specs.Rounds.{Verdict}
 use Rattle.model.specs.Planner.{refused, done, plan}
@@ -15,15 +15,15 @@ use Rattle.model.proofs.Questions.{asked, limit_asked}
 use Rattle.model.proofs.Refusals.{plan_passed, plan_lengths}
 use Rattle.model.specs.Demand.{echoed, Demand3}
 use Rattle.model.proofs.DemandProof.{demand3, planner_keeps, planner_clash}
-use Rattle.propagator.specs.Plans.{reply_of as answer_of}
-use Rattle.checker.specs.Judgement.{reply_of as judgement_of}
-use Rattle.propagator.specs.Runs.{verdict_of}
-use Rattle.propagator.specs.declared.Answer.{Answer}
 use Rattle.questions.specs.Numbers.{number_of}
 use Rattle.questions.specs.declared.Refusal.{Refusal}
+use Rattle.propagator.specs.Plans.{reply_of as answer_of}
+use Rattle.propagator.specs.Runs.{verdict_of}
+use Rattle.propagator.specs.declared.Answer.{Answer}
+use Rattle.checker.specs.Judgement.{reply_of as judgement_of}
+use Rattle.checker.specs.declared.Judgement.{Judgement}
 use Rattle.reservoir.specs.Assured.{judged, Taken, Assured}
 use Rattle.reservoir.specs.declared.Checked.{Checked}
-use Rattle.checker.specs.declared.Judgement.{Judgement}
 
 not_both : {A : Type 0} (v : Verdict) (a b c n p : ℕ) → done v a b c ≡ refused n p → A
 not_both v a b c n p e = cc

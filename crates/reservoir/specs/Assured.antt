@@ -5,10 +5,10 @@ use Rattle.model.specs.Rounds.{conflict, Verdict}
 use Rattle.model.specs.Planner.{refused, done, plan}
 use Rattle.model.specs.Reader.{check}
 use Rattle.model.specs.Demand.{echoed, LegalPlan, Acceptance}
-use Rattle.propagator.specs.Plans.{reply_of as answer_of}
-use Rattle.checker.specs.Judgement.{reply_of as judgement_of}
 use Rattle.questions.specs.declared.Refusal.{Refusal}
+use Rattle.propagator.specs.Plans.{reply_of as answer_of}
 use Rattle.propagator.specs.declared.Answer.{Answer}
+use Rattle.checker.specs.Judgement.{reply_of as judgement_of}
 use Rattle.checker.specs.declared.Judgement.{Judgement}
 use Rattle.reservoir.specs.declared.Checked.{Checked}
 

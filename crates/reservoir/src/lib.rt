@@ -20,7 +20,7 @@ pub struct Checked {
     pub judgement: Judgement,
 }
 
-// The table's words copied, if it has at most 320.
+// The table's words copied, if it has at most 320: the library uses no heap, so the copy is an array.
 fn keep(table: &[i32], copy: &mut [i32; 320])
     requires { length copy.old ≡ 320 }
     ensures { Copied table.now copy.new }
@@ -34,6 +34,7 @@ fn keep(table: &[i32], copy: &mut [i32; 320])
 // Plans, then reads what was written with the windows as first sent in. A call that the planner refuses is refused.
 // The promise is demands 1 to 3 in one piece. It rules out a call that says open whatever the reader answered (reader_not_heard)
 // and one that reads the list from other windows than those sent in (windows_of_64_events_lost).
+// The tables stand one by one, as the C interface lends them.
 pub fn plan_and_read(
     h: i32,
     cages: &[i32],

@@ -51,16 +51,16 @@ fn said(own: bool, first: Time, other: Time) -> Word
 }
 
 // What decides a slip's facts event by event.
-trait ByEvent {
+trait ByEvent: Copy {
     // Does the slip quote an end of an event, and what does it say of it?
     ghost cites: { Self → Windows → ℕ → Ended → Bool };
 
     ghost says: { Self → Windows → ℕ → Ended → ℤ };
 
     // The facts of event z.
-    fn event_facts(&self, b: &Board, z: usize) -> EventFacts
+    fn event_facts(self, b: &Board, z: usize) -> EventFacts
         requires { (z < 64) × Within (board b.now.words z h_min) 9999 }
-        ensures { told_by z result ≡ premises_of (cites self.now (board b.now.words)) (says self.now (board b.now.words)) z };
+        ensures { told_by z result ≡ premises_of (cites self (board b.now.words)) (says self (board b.now.words)) z };
 }
 
 impl ByEvent for LevelCiting {
@@ -70,8 +70,9 @@ impl ByEvent for LevelCiting {
 
     ghost says = { level_said };
 
-    fn event_facts(&self, b: &Board, z: usize) -> EventFacts {
-        let f = quoted(b, *self, z);
+    #[inline(always)]
+    fn event_facts(self, b: &Board, z: usize) -> EventFacts {
+        let f = quoted(b, self, z);
         let own = z == self.view.subject;
         let end = height_end(self.view.mirror);
         EventFacts {
@@ -90,13 +91,13 @@ impl ByEvent for TotalCiting {
 
     ghost says = { λ c W. W };
 
-    fn event_facts(&self, b: &Board, z: usize) -> EventFacts {
+    fn event_facts(self, b: &Board, z: usize) -> EventFacts {
         let end = height_end(self.mirror);
         EventFacts {
             lower: None,
             upper: None,
             end,
-            height: total_quoted(b, *self, z).then_some(b.end(end, z)),
+            height: total_quoted(b, self, z).then_some(b.end(end, z)),
         }
     }
 }
@@ -104,9 +105,9 @@ impl ByEvent for TotalCiting {
 // ---- counted
 
 // The number of facts of n events.
-fn count_events<C: ByEvent>(b: &Board, n: usize, c: &C) -> usize
+fn count_events<C: ByEvent>(b: &Board, n: usize, c: C) -> usize
     requires { Ranged n (board b.now.words) }
-    ensures { result ≡ length (premise_list n (C.cites c.now (board b.now.words)) (C.says c.now (board b.now.words))) }
+    ensures { result ≡ length (premise_list n (C.cites c (board b.now.words)) (C.says c (board b.now.words))) }
 {
     let mut count = 0;
     for z in 0..n {
@@ -129,7 +130,7 @@ impl<'a> Quoting<'a> {
         requires { Quotable self.now }
         ensures { result ≡ length (quoted_by self.now) }
     {
-        match &self.cited {
+        match self.cited {
             Citing::Lag(c) => usize::from(c.starts) + usize::from(c.ends),
             Citing::Level(c) => count_events(self.board, self.events, c),
             Citing::Total(c) => count_events(self.board, self.events, c),
@@ -162,11 +163,11 @@ impl<'a> Writer<'a> {
         self.put_fact(z, f.end, f.height);
     }
 
-    // The facts of n events appended, event by event.
-    fn put_events<C: ByEvent>(&mut self, b: &Board, n: usize, c: &C)
+    // The facts of n events appended, event by event; c by value, so that it is not read again after each write.
+    fn put_events<C: ByEvent>(&mut self, b: &Board, n: usize, c: C)
         requires { Ranged n (board b.now.words)
-            × HasRoom (3 * length (premise_list n (C.cites c.now (board b.now.words)) (C.says c.now (board b.now.words)))) self.old }
-        ensures words { Wrote (premise_words (premise_list n (C.cites c.now (board b.now.words)) (C.says c.now (board b.now.words))))
+            × HasRoom (3 * length (premise_list n (C.cites c (board b.now.words)) (C.says c (board b.now.words)))) self.old }
+        ensures words { Wrote (premise_words (premise_list n (C.cites c (board b.now.words)) (C.says c (board b.now.words))))
             self.old self.new }
         ensures same_buffer { self.new.words.ghost_name ≡ self.old.words.ghost_name }
     {
@@ -198,8 +199,8 @@ impl<'a> Writer<'a> {
         ensures words { Wrote (premise_words (quoted_by q.now)) self.old self.new }
         ensures same_buffer { self.new.words.ghost_name ≡ self.old.words.ghost_name }
     {
-        match &q.cited {
-            Citing::Lag(c) => self.put_lag(c),
+        match q.cited {
+            Citing::Lag(c) => self.put_lag(&c),
             Citing::Level(c) => self.put_events(q.board, q.events, c),
             Citing::Total(c) => self.put_events(q.board, q.events, c),
         }

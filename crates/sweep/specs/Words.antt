@@ -1,5 +1,5 @@
 -- The words of a stream as four bytes, lowest first, and the checksum of a table's words.
-use Rattle.std.specs.Prelude.{List, [], ◌∷◌, ℕ, ◌+◌, ◌*◌, ◌%◌, ◌^◌, ℤ}
+use Rattle.std.specs.Prelude.{List, ℕ, ◌+◌, ◌*◌, ◌%◌, ◌^◌, ℤ, fold}
 use Rattle.std.specs.Int.{w32}
 use Rattle.std.proofs.Common.{to_z, of_z}
 
@@ -19,10 +19,6 @@ bits_of z = of_z w32 z
 abbrev pub mixed : ℕ → ℤ → ℕ
 mixed sum z = (sum * 16777619 + bits_of z) % 2 ^ 32
 
-unfoldable pub folded : ℕ → List ℤ → ℕ
-folded sum [] = sum
-folded sum (z ∷ words) = folded (mixed sum z) words
-
 -- The checksum of a table.
 abbrev pub checksum : List ℤ → ℕ
-checksum words = folded 2166136261 words
+checksum words = fold mixed 2166136261 words

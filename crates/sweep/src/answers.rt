@@ -37,6 +37,7 @@ fn read_record(out: &mut impl Write, r: &mut Record) -> io::Result<()> {
     }
 }
 
+// The call made, and its line.
 pub fn answer(out: &mut impl Write, mut r: Record) -> io::Result<()> {
     match r.called {
         Called::Planner => plan_record(out, &mut r)?,

@@ -2,10 +2,11 @@
 ghost use Rattle.std.specs.Prelude.{◌^◌, ◌<◌, ◌≤◌, IfOk};
 
 use super::words::word;
-use anyhow::{Context, Result, anyhow, bail, ensure};
+use anyhow::{Context, Result, bail, ensure};
 use std::alloc::Global;
 use std::io::Read;
 
+// What is said where the stream ends before its last record does.
 const CUT: &str = "the stream is cut short";
 
 // Who is called.

@@ -10,21 +10,15 @@ pub fn word(bytes: [u8; 4]) -> i32
 }
 
 // The checksum with one word more.
-fn mix(sum: u64, x: i32) -> u64
-    requires { sum < 2 ^ 32 }
-    ensures value { result ≡ mixed sum x }
-    ensures upper_bound { result < 2 ^ 32 }
+fn mix(sum: u32, x: i32) -> u32
+    ensures { result ≡ mixed sum x }
 {
-    (sum * 16777619 + u64::from(x.cast_unsigned())) % (1 << 32)
+    sum.wrapping_mul(16777619).wrapping_add(x.cast_unsigned())
 }
 
 // A table's checksum.
-pub fn checksum(words: &[i32]) -> u64
+pub fn checksum(words: &[i32]) -> u32
     ensures { result ≡ checksum_of words.now }
 {
-    let mut sum: u64 = 2166136261;
-    for x in words {
-        sum = mix(sum, *x);
-    }
-    sum
+    words.iter().fold(2166136261, |sum, x| mix(sum, *x))
 }
