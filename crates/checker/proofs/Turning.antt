@@ -1,6 +1,6 @@
 -- One slip read, asked and applied; then all slips in turn.
 -- Assumes nothing.
-use mathlib.Core.Path.{◌≡◌, refl, sym, ap, ◌∙◌}
+use mathlib.Core.Path.{◌≡◌, refl, sym, ◌∙◌}
 use mathlib.Core.Bool.{Bool, true, false}
 use mathlib.Core.List.{List}
 use Prim.Native.Nat.{ℕ, suc, ◌+◌, ◌*◌, ◌<◌, ◌≤◌}
@@ -32,9 +32,6 @@ use Rattle.checker.specs.Turns.{Applies, slip_asked}
 module _ (n : ℕ) (sent b : List ℤ) (full : length b ≡ 256) (s : Slip) {t : Bool} (zero-kind : t ≡ eq_z s.kind.0 (pos 0)) where
   abbrev Done : Bool → List ℤ → Type 0
   Done c b' = (c ≡ is_conflict (explanation_of s)) × (table_of n sent b' ≡ applied (table_of n sent b) (explanation_of s))
-
-  pub none_made : t ≡ true → Done true b
-  none_made e = let k = sym zero-kind ∙ e in (sym k, rw k)
 
   pub one_made : {b' : List ℤ} (y : ℕ) (k : End) → t ≡ false → k ≡ own_end (rule_of s.rule) → y ≡ nat_abs s.target.0 → y < n → n ≤ 64 → b' ≡ set b (64 * word k + y) s.value.0 → Done false b'
   one_made {b'} y k e o q l m g =

@@ -1,18 +1,16 @@
 -- What a slip names: its subject, target and kind.
 -- Assumes nothing.
-use mathlib.Core.Path.{◌≡◌, refl, ◌∙◌}
+use mathlib.Core.Path.{◌≡◌}
 use mathlib.Core.Bool.{Bool, true, false, ◌&&◌}
 use mathlib.Core.List.{List}
-use Prim.Native.Nat.{ℕ, zero, suc, ◌+◌, ◌-◌, ◌/◌, ◌<◌, ◌≤◌}
+use Prim.Native.Nat.{ℕ, ◌<◌}
 use native.Mathlib.Omega.{arith}
-use lib.Dec.{T, eqb, ltb→lt}
+use lib.Dec.{T, ltb→lt}
 use lib.IntN.{ℤ, pos, negsuc, nat_abs}
-use lib.ListN.{length}
 use lib.Signed.{le_z, lt_z}
 use Rattle.integers.proofs.Tests.{and_out}
-use Rattle.model.specs.Job as model
-use Rattle.model.specs.Job.{any, events, member_count, member_word, begun}
-use Rattle.model.specs.Rules.{total, rule, subjects, target_fits}
+use Rattle.model.specs.Job.{events}
+use Rattle.model.specs.Rules.{subjects, target_fits}
 use Rattle.model.specs.Questions.{pass, ask, is_event}
 use Rattle.model.specs.Reader.{kind_fits, premises_fit, names}
 use Rattle.tables.specs.declared.Job.{Job}

@@ -1,10 +1,9 @@
 -- The facts of a slip: what the reader's walks over them come to.
 -- Assumes nothing.
-use mathlib.Core.Path.{◌≡◌, refl, ap, subst, ◌∙◌}
+use mathlib.Core.Path.{◌≡◌, refl, ap, ◌∙◌}
 use mathlib.Core.List.{List, [], ◌∷◌}
 use Prim.Native.Nat.{ℕ, zero, suc, ◌<◌, ◌≤◌}
 use native.Mathlib.Omega.{arith}
-use mathlib.Core.Bool.{true, false}
 use lib.Dec.{T}
 use lib.IntN.{ℤ, pos, nat_abs}
 use lib.ListN.{length, get_or}
@@ -93,12 +92,3 @@ kind_end t_min e = rw e
 kind_end t_max e = rw e
 kind_end h_min e = rw e
 kind_end h_max e = rw e
-
-pub no_kind : {n : ℕ} {f : Premise} → Names n f → in_range (pos 1) (pos 4) f.kind ≡ false → ⊥
-no_kind {f = f} s e =
-    let x = non_neg→ f.kind (→non_neg f.kind (let y = s.kind_sign in omega ints)) in
-    let l = s.kind_low in
-    let h = s.kind_high in
-    let a : le_z (pos 1) f.kind ≡ true = omega ints in
-    let b : le_z f.kind (pos 4) ≡ true = omega ints in
-    absurd (subst T (rw (a, b) at e) tt)

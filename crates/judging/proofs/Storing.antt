@@ -1,22 +1,19 @@
 -- One word stored on a board: what its windows then are.
 -- Assumes nothing.
-use mathlib.Core.Path.{◌≡◌, refl, sym, ap, ◌∙◌}
+use mathlib.Core.Path.{◌≡◌, refl, sym}
 use mathlib.Core.Bool.{Bool, true, false, not, cond, ◌&&◌}
 use mathlib.Core.List.{List}
 use Prim.Native.Nat.{ℕ, ◌+◌, ◌*◌, ◌<◌}
 use borrow.Author.Tests.{eqb-true, eqb-false}
 use lib.Dec.{T, eqb}
 use lib.IntN.{ℤ}
-use lib.ListN.{length, set, length-set}
+use lib.ListN.{set}
 use Rattle.model.specs.Job.{End, meets, word, Windows}
 use Rattle.model.specs.Reader.{same_end, narrow}
 use Rattle.model.proofs.Order.{same_end_is}
 use Rattle.model.proofs.Table.{store}
 use Rattle.tables.specs.Board.{board, Whole}
 use Rattle.tables.proofs.Boarding.{board_set_same, board_set_event, board_set_end}
-
-pub whole_set : (b b' : List ℤ) (i : ℕ) (v : ℤ) → Whole b → b' ≡ set b i v → Whole b'
-whole_set b b' i v w e = ap length e ∙ length-set b i v ∙ w
 
 pub board_store : (b : List ℤ) {b' : List ℤ} → Whole b → (y : ℕ) (k : End) (v : ℤ) → y < 64 → b' ≡ set b (64 * word k + y) v → (z : ℕ) → z < 64 → (l : End) → board b' z l ≡ store (board b) y k v z l
 board_store b full y k v near e z far l = rw e (go (same_end l k) (eqb z y) (same_end_is l k) (eqb-false (word l) (word k)) (eqb-true z y) (eqb-false z y))

@@ -9,7 +9,7 @@ use Rattle.model.specs.Rules.{total, target_fits}
 use Rattle.model.specs.Slips.{Premise, premise_event, premise_end}
 use Rattle.model.specs.Questions.{Check, pass, refuse, is_event, in_range}
 use Rattle.model.specs.Reader.{names}
-use Rattle.tables.specs.Board.{board, Whole}
+use Rattle.tables.specs.Board.{board}
 use Rattle.tables.specs.Job.{reservoir_of, call, Kinds}
 use Rattle.tables.specs.declared.Job.{Job}
 use Rattle.questions.specs.Numbers.{number_of}

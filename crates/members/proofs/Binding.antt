@@ -3,7 +3,7 @@
 use mathlib.Core.Path.{◌≡◌, refl, sym, ap, subst, ◌∙◌}
 use mathlib.Core.Bool.{Bool, true, false, cond, ◌&&◌}
 use mathlib.Core.List.{List, [], ◌∷◌, ◌++◌}
-use Prim.Native.Nat.{ℕ, ◌+◌, ◌≤◌, ◌<◌}
+use Prim.Native.Nat.{ℕ, ◌+◌, ◌<◌}
 use native.Mathlib.Omega.{arith}
 use lib.Dec.{eqb, eqb_refl}
 use lib.IntN.{ℤ, pos, nat_abs, ◌-ℤ◌}
@@ -230,9 +230,6 @@ swept_rest todo e q d = record { leads = rw q d; stays = e }
 -- From the same set on the same board the same is done, and to it.
 pub moved_from : {f : Call → State → State} {k k₁ k' : SetJob} {l l' : Log} → fixed k₁ ≡ fixed k → k₁.board.now.words ≡ k.board.now.words → Moved f k₁ l k' l' → Moved f k l k' l'
 moved_from e q m = record { leads = rw (events_are e, sets_are e, q) at m.leads; stays = m.stays ∙ e }
-
-pub moved_to : {f : Call → State → State} {k k' k₁ : SetJob} {l l' : Log} → fixed k₁ ≡ fixed k' → k₁.board.now.words ≡ k'.board.now.words → Moved f k l k' l' → Moved f k l k₁ l'
-moved_to e q m = record { leads = rw q m.leads; stays = e ∙ m.stays }
 
 pub swept_none : (f : ℕ → Call → List Attempt) (k : SetJob) (l : Log) → Swept (λ j. each_of (λ i. f i j) 0 0) k l k l
 swept_none f k l = record { leads = leads_nothing f k.board.now.words l; stays = refl }

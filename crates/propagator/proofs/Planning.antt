@@ -22,7 +22,7 @@ use Rattle.tables.proofs.Boarding.{windows_board}
 use Rattle.tables.proofs.Holding.{standing_signed}
 use Rattle.slips.specs.Words.{Appended}
 use Rattle.slips.proofs.Wording.{drop_later}
-use Rattle.rounds.specs.Held.{Held, Roomy}
+use Rattle.rounds.specs.Held.{Held}
 use Rattle.rounds.specs.State.{room, state_at, state_of}
 use Rattle.rounds.specs.declared.Log.{Log}
 use Rattle.turns.specs.Works.{Works}

@@ -2,8 +2,7 @@
 -- Assumes nothing.
 use mathlib.Core.Path.{◌≡◌, refl, sym, ap, ◌∙◌}
 use mathlib.Core.Bool.{Bool, true, false}
-use Prim.Native.Nat.{ℕ, zero, suc, ◌+◌, ◌-◌, ◌≤◌, ◌<◌}
-use native.Mathlib.Nat.{sub-zero}
+use Prim.Native.Nat.{ℕ, suc, ◌+◌, ◌-◌, ◌≤◌, ◌<◌}
 use native.Mathlib.Omega.{arith}
 use lib.Dec.{eqb}
 use Rattle.std.specs.Prelude.{Option, Some, None}
@@ -14,22 +13,13 @@ use Rattle.model.specs.Rounds as model
 use Rattle.model.specs.Rounds.{State, Run, running, ended, settled, round, run}
 use Rattle.rounds.specs.State.{room, status_of, Grown}
 use Rattle.rounds.specs.declared.Log.{Log}
-use Rattle.rounds.proofs.Moves.{grown_none, grown_more}
+use Rattle.rounds.proofs.Moves.{grown_more}
 use Rattle.turns.specs.Turns.{call_of, fixed, Done}
 use Rattle.turns.specs.declared.Call.{Call as Hand}
 use Rattle.turns.proofs.Turning.{call_is, events_are}
-use Rattle.propagator.specs.Runs.{verdict_of, ending_of, fuel_of, now, Ran}
+use Rattle.propagator.specs.Runs.{verdict_of, ending_of, now, Ran}
 use Rattle.propagator.specs.declared.Verdict.{Verdict}
 use Rattle.propagator.specs.declared.Verdict.TheVariants.{Stopped}
-
--- ---- the fuel
-
-pub no_limit : (limit room : ℕ) → limit ≡ 0 → room ≡ fuel_of limit room
-no_limit limit room e = rw e
-
-pub some_limit : (limit room : ℕ) → (limit ≡ 0 → ⊥) → limit ≡ fuel_of limit room
-some_limit zero room h = absurd (h refl)
-some_limit (suc k) room h = refl
 
 -- ---- one round of a run
 
@@ -69,9 +59,6 @@ pub record Rolling (fuel : ℕ) (c₀ : Hand) (l₀ : Log) (c : Hand) (l : Log) 
   pub stays : fixed c ≡ fixed c₀
   pub grown : Grown l₀ l
   pub begun : rounds ≤ fuel
-
-pub rolling_start : (fuel : ℕ) (c : Hand) (l : Log) → Rolling fuel c l c l 0
-rolling_start fuel c l = record { is = rw sub-zero; stays = refl; grown = grown_none l; begun = omega arith }
 
 -- The fuel is used up.
 pub rolling_stops : {fuel : ℕ} {c₀ : Hand} {l₀ : Log} {c : Hand} {l : Log} {rounds : ℕ} → Rolling fuel c₀ l₀ c l rounds → fuel ≤ rounds → Ran fuel c₀ l₀ c l (record { verdict = Stopped; rounds = fuel })

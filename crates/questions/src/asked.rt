@@ -45,7 +45,7 @@ pub fn each<F: Fn(usize) -> bool>(question: Question, n: usize, right: F) -> Res
 
 // ---- tests of words
 
-// x is one of a..b, both ends among them.
+// x is one of a..b, both ends among them. It has a name, since `slips` asks the same of a list's words.
 pub fn between(x: i32, a: i32, b: i32) -> bool
     ensures { result ≡ (le_z a x && le_z x b) }
 {
@@ -195,7 +195,7 @@ fn window_questions(h: Time, cages: usize, table: &[i32]) -> Result<(), Refusal>
     each(Question::Cage, n, |y| cage_right(cages, table, y))
 }
 
-// To the lag table of a job of n events.
+// To the lag table of a job of n events. That n is at most 64, as question 4 asked, stays in contracts: a type for it would only wrap the number in this crate.
 fn lag_questions(n: usize, lags: &[i32]) -> Result<(), Refusal>
     requires { n ≤ 64 }
     ensures { check_of result ≡ lag_questions n lags.now }

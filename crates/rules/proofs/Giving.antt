@@ -1,7 +1,7 @@
 -- What each rule gives, by number, as `rules::findings` computes it.
 -- Assumes nothing.
-use mathlib.Core.Path.{◌≡◌, refl, sym, ap, ◌∙◌}
-use mathlib.Core.Bool.{Bool, true, false}
+use mathlib.Core.Path.{◌≡◌, sym, ap, ◌∙◌}
+use mathlib.Core.Bool.{Bool}
 use mathlib.Core.List.{List}
 use Prim.Native.Nat.{ℕ, ◌/◌, ◌<◌}
 use native.Mathlib.Omega.{arith}
@@ -9,10 +9,10 @@ use lib.IntN.{ℤ, nat_abs, ◌+ℤ◌, ◌-ℤ◌}
 use lib.ListN.{length}
 use Rattle.model.specs.Job.{t_min, t_max, Windows, lag_word, Job as Call}
 use Rattle.model.specs.Standing.{Ranged}
-use Rattle.model.specs.Rules.{Finding, nothing, clash, bound, Family, time, Rule, lag_upper, lag_lower, reservoir, finding, time_rule, side_finding, family_end}
+use Rattle.model.specs.Rules.{Finding, bound, Family, Rule, lag_upper, lag_lower, reservoir, finding, side_finding, family_end}
 use Rattle.tables.specs.Job.{reservoir_of, Serves, Fit}
 use Rattle.tables.specs.declared.Job.{Job}
-use Rattle.levels.specs.Values.{as_view, seen_by, Views}
+use Rattle.levels.specs.Values.{Views}
 use Rattle.levels.specs.declared.View.{View as Sight}
 use Rattle.levels.proofs.Viewing.{rule_here}
 use Rattle.rules.specs.Values.{seen_rule, subjects_of, Lagged}
@@ -20,21 +20,6 @@ use Rattle.rules.specs.Values.{seen_rule, subjects_of, Lagged}
 -- A rule of 3..14 has events for subjects.
 pub event_subject : (m b : Bool) (f : Family) {q : Rule} (k : Job) (ws : List ℤ) {e : ℕ} → reservoir m b f ≡ q → e < subjects_of q k ws → e < k.events
 event_subject m b f k ws p l = rw (← p) at l
-
--- ---- what the families give
-
--- A time is read back as it is.
-side_time : (m : Bool) (f : Finding) → side_finding m t_min f ≡ f
-side_time true nothing = refl
-side_time true clash = refl
-side_time true (bound v) = refl
-side_time false nothing = refl
-side_time false clash = refl
-side_time false (bound v) = refl
-
-module _ (v : Sight) (W : Windows) where
-  pub time_is : {f : Finding} → f ≡ time_rule (as_view v W) (seen_by v W) → f ≡ seen_rule time v W v.subject
-  time_is p = p ∙ sym (side_time v.mirror (time_rule (as_view v W) (seen_by v W)))
 
 -- ---- in a job
 

@@ -31,9 +31,6 @@ use Rattle.silence.proofs.Sparing.{width_side, idle_here}
 
 -- ---- the tests as the code makes them
 
-pub early_at : (E : View) (X : Windows) {u v l : ℤ} {o r : Bool} → u ≡ e_min E X → v ≡ e_max E X → o ≡ le_z u v → l ≡ most_in E X u u → r ≡ le_z E.limit l → (o && r) ≡ reaches_early E X
-early_at E X a b o l r = rw (o, r, l, a, b)
-
 pub floor_within : {n : ℕ} {W : Windows} (u : ℤ) (y : ℕ) → Ranged n W → y < n → Within (floor_gain W u y) 9999
 floor_within {n} {W} u y r l =
     kept_within ((produces (W y h_max) && lt_z (W y t_min) u) || (not (produces (W y h_max)) && le_z (W y t_max) u)) (W y h_max) (r.range y l h_max)

@@ -1,5 +1,5 @@
 -- A slip as the code writes it, and as it is read from a list: its header and its facts.
-use Rattle.std.specs.Prelude.{◌≡◌, true, false, List, [], ◌∷◌, ℕ, ◌+◌, ◌≤◌, ◌<◌, ℤ, pos, nat_abs, Option, Some, None, MatchOption}
+use Rattle.std.specs.Prelude.{◌≡◌, true, false, List, [], ◌∷◌, ℕ, ◌+◌, ◌≤◌, ℤ, pos, nat_abs, Option, Some, None, MatchOption}
 use Rattle.model.specs.Job.{Windows}
 use Rattle.model.specs.Standing.{Ranged}
 use Rattle.model.specs.Rules.{known_rule, Rule}

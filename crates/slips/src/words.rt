@@ -1,4 +1,4 @@
-// One word of a list, read and compared.
+// One word of a list, read and compared: functions, since `Word` is of the crate `tables`, and a trait for one type is no plainer.
 ghost use Rattle.std.specs.Prelude.{◌≡◌, ◌<◌, T, pos, nat_abs, length};
 ghost use Rattle.std.specs.Int.Signed.{le_z};
 ghost use Rattle.integers.specs.Range.{eq_z};

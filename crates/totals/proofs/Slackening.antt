@@ -12,8 +12,7 @@ use Rattle.integers.proofs.Tests.{is_true, true_is, and_out}
 use Rattle.model.specs.Job.{h_min, h_max, Windows, events, in_set, set_begin, Job as Call}
 use Rattle.model.specs.Standing.{SaneSet}
 use Rattle.model.specs.View.{side, side_value, look}
-use Rattle.model.specs.Rules.{bound, total, total_limit, others, finding, own_end, Effect, idle, effect}
-use Rattle.model.specs.Slips.{end}
+use Rattle.model.specs.Rules.{bound, total, total_limit, others, finding, idle}
 use Rattle.model.proofs.Totals.{members_sum, others_and_own}
 use Rattle.totals.specs.Totals.{limit_at, total_at, slack_at, SetOf, bound_by, does_by, Slack}
 
@@ -49,22 +48,7 @@ slackens m {ws} {at} j g W {s} e o =
     let same : slack_at m j.set_table (set_begin j.set_table g) W ≡ s = rw (o.sets_are, ← o.begins) (sym e) in
     record { gives = λ y l t. gives_at m j g W here y l t ∙ ap (λ s. bound (bound_by m W y s)) same }
 
--- The bound, as the code takes it and turns it back.
-pub bound_is : (m : Bool) (W : Windows) (y : ℕ) (s : ℤ) {h d r : ℤ} → h ≡ side m W y h_max → d ≡ h -ℤ s → r ≡ side_value m h_min d → r ≡ bound_by m W y s
-bound_is m W y s p q r = rw (← p, ← q) r
-
 -- ---- what it does
-
--- The kind of the bounds.
-pub kind_mirror : {m : Bool} → m ≡ true → end 4 ≡ own_end (total m)
-kind_mirror p = rw p
-
-pub kind_plain : {m : Bool} → m ≡ false → end 3 ≡ own_end (total m)
-kind_plain p = rw p
-
--- The bound at its kind.
-pub does_is : (m : Bool) (W : Windows) (y : ℕ) (s : ℤ) (k : ℕ) {h w : ℤ} {x : Effect} → h ≡ bound_by m W y s → w ≡ h → end k ≡ own_end (total m) → x ≡ effect (end k) W y (bound w) → x ≡ does_by m W y s
-does_is m W y s k p q r e = e ∙ rw (r, q, p)
 
 -- With a slack s that is not below 0 and a width d no more than that, the bound v keeps both ends of the window.
 under : {low top s d v : ℤ} → d ≡ top -ℤ low → v ≡ top -ℤ s → pos 0 ≤ℤ s → d ≤ℤ s → (v ≤ℤ top) × (v ≤ℤ low)

@@ -35,10 +35,6 @@ pub sum_more : (f : ℕ → ℤ) (i : ℕ) {t h r : ℤ} → t ≡ sum i f → h
 unfolding sum
 sum_more f i p q r = rw (add-one i, ← p, ← q) r
 
--- A member's h_max on a side, read at its event.
-pub member_height : (m : Bool) (W : Windows) {y e : ℕ} {h : ℤ} → y ≡ e → h ≡ side m W y h_max → h ≡ side m W e h_max
-member_height m W p q = rw p at q
-
 -- ---- ranges
 
 pub side_ends : (m : Bool) (W : Windows) (y : ℕ) → Within (W y h_min) 9999 → Within (W y h_max) 9999 → Within (side m W y h_max) 9999

@@ -1,6 +1,5 @@
 -- `slips::writer::Writer::put_event` appends an event's facts one by one. Assumes nothing.
 use mathlib.Core.List.{◌++◌}
-use native.Mathlib.Omega.{arith}
 use Rattle.model.specs.Job.{t_min, t_max}
 use Rattle.tables.specs.Ends.{end_of}
 use Rattle.slips.specs.Telling.{told}

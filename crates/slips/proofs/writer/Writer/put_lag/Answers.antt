@@ -1,5 +1,4 @@
 -- `slips::writer::Writer::put_lag` appends a lag's facts by event. Assumes nothing.
-use native.Mathlib.Omega.{arith}
 use Rattle.model.specs.Job.{t_min, t_max}
 use Rattle.model.specs.Slips.{quote}
 use Rattle.slips.proofs.Filling.{told_quote, room_left, wrote_more, lag_onward, lag_back}
