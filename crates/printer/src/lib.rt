@@ -24,7 +24,7 @@ pub fn print_done(out: &mut [u8], name: &[u8], slips: usize, rounds: usize, tabl
     text.at
 }
 
-// "refused", number, place.
+// "refused", number, place. The number is a number here, as printing knows no questions.
 // It rules out a program that exchanges the two (place_before_number) and one that loses digits (digit_lost).
 pub fn print_refused(out: &mut [u8], number: usize, place: usize) -> usize
     requires { 8192 ≤ length out.old }

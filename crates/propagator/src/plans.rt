@@ -14,7 +14,7 @@ use slips::writer::Writer;
 use tables::{Board, Time};
 use turns::Call;
 
-// The run of a call whose questions passed, with both lent tables written.
+// The run of a call whose questions passed, with both lent tables written. They stand one by one, since the window table is written where `Call` only reads it.
 fn planned(
     horizon: Time,
     cages: &[i32],

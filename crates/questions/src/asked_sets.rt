@@ -1,4 +1,4 @@
-// The questions to the set table. Any words are walked.
+// The questions to the set table. Any words are walked. That n is at most 64 stays in contracts, as in asked.rt.
 ghost use Rattle.std.specs.Prelude.{◌≡◌, ◌<◌, ◌≤◌, T, length};
 ghost use Rattle.model.specs.Job.{every};
 ghost use Rattle.model.specs.Questions.{set_whole, members_right, totals_right, total_in_range, set_questions};

@@ -19,6 +19,7 @@ pub enum Status {
 }
 
 // The list so far in the lent slip buffer: words used, number of slips, where the last slip begins; how the call stands.
+// Buffer and words used are no `Writer` here: that was tried, and where a struct inside a struct ends, nothing tells the caller what its buffer holds.
 #[derive(Drop)]
 pub struct Log<'a> {
     pub buffer: &'a mut [i32],

@@ -34,7 +34,7 @@ pub enum Rule {
     Total { mirror: bool },
 }
 
-// What a rule gives: nothing, a conflict of the levels, or a bound on its target.
+// What a rule gives: nothing, a conflict of the levels, or a bound on its target: three cases of one standing, and so no Option in a Result.
 #[derive(Clone, Copy)]
 pub enum Finding {
     Nothing,
@@ -42,7 +42,7 @@ pub enum Finding {
     Bound(Word),
 }
 
-// What a finding does to its target's window: nothing, a new end, a conflict.
+// What a finding does to its target's window: nothing, a new end, a conflict; three cases of one standing, too.
 #[derive(Clone, Copy)]
 pub enum Effect {
     Idle,
