@@ -66,7 +66,7 @@ impl SetJob<'_> {
         store_if(self.board, log.is_written(), rule, y, x);
     }
 
-    // One attempt of it; none once the call has ended.
+    // One attempt of it; none once the call has ended. The frame is that of a cage job's attempt: what is read, cited and shown differs in each step, so that a trait of the steps would be longer than both.
     fn attempt(&mut self, mirror: bool, y: usize, log: &mut Log<'_>)
         requires { (y < self.old.events) × (is_member self.old.sets.now self.old.set y ≡ true) }
         ensures { Swept (λ j. try (number mirror) self.old.set y ∷ []) self.old log.old self.new log.new }
@@ -99,7 +99,7 @@ impl SetJob<'_> {
     {
         let low = slack(self.board, self.sets, self.at, self.count, false);
         let high = slack(self.board, self.sets, self.at, self.count, true);
-        Height(low.0.min(high.0))
+        low.min(high)
     }
 
     // Its members as listed. Its slack is added up once, and again after a member that it does not spare.

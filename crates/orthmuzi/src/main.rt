@@ -17,7 +17,7 @@ ghost use Rattle.orthmuzi.specs.Hearing.{TookNext, HeardAll, Wrote};
 
 use propagator::Answer;
 use propagator::plans::plan;
-use questions::Refusal;
+use questions::{Question, Refusal};
 use scanner::{MOST_NUMBERS, Scan, Sizes};
 use std::io;
 use std::io::{Read, Write};
@@ -82,7 +82,7 @@ fn answer(s: Scan, table: &mut [i32], out: &mut [u8]) -> usize
     ensures { Printed out.new result (answered (finished (state s table.old))) }
 {
     let Some(sizes) = scanner::finish(s, table) else {
-        return printer::print_refused(out, 20, 0);
+        return printer::print_refused(out, Question::Text.number(), 0);
     };
     let mut space = [0i32; 320];
     table_planned(sizes, table, &mut space, out)

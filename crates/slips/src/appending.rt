@@ -71,7 +71,7 @@ impl<'a> Writer<'a> {
         self.put_length(facts);
     }
 
-    // The same where there is room for as many facts as there can be: the facts are written first, and so counted.
+    // The same where there is room for as many facts as there can be: the facts are written first, and so counted. It stands beside `append_slip`, since to count first is to walk the events twice.
     pub fn put_slip(&mut self, h: Header, q: &Quoting)
         requires { Writable h q.now × HasRoom 775 self.old }
         ensures words { Wrote (slip_words (written_by h q.now)) self.old self.new }

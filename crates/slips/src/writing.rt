@@ -176,7 +176,7 @@ impl<'a> Writer<'a> {
         }
     }
 
-    // A lag's two facts appended: t ≥ of a first where a comes no later than b, else t ≤ of b.
+    // A lag's two facts appended: t ≥ of a first where a comes no later than b, else t ≤ of b. With no loop over the events: it would ask each of them whether it is a or b.
     fn put_lag(&mut self, c: &LagCiting)
         requires { HasRoom (3 * length (told_by_lag c.now)) self.old × (c.now.a < 64) × (c.now.b < 64) }
         ensures words { Wrote (premise_words (told_by_lag c.now)) self.old self.new }

@@ -54,6 +54,7 @@ impl Call<'_> {
     }
 
     // Lags read neither cages nor amounts: all of them as in a job of the first cage alone.
+    // That job is made here and in `together`: a function that lends it was tried, and its proof did not close, since the board passes on a `&mut` past what holds of the call.
     fn each_lag(&mut self, log: &mut Log<'_>)
         ensures { Done lags_attempts self.old log.old self.new log.new }
     {
