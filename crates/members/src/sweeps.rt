@@ -14,7 +14,7 @@ use facts::premises::total_citing;
 use rounds::Log;
 use rounds::attempts::store_if;
 use rules::{Effect, Rule};
-use sets::{count, sets as begun};
+use sets::{after, count, sets as begun};
 use silence::slack::is_spared;
 use slips::Header;
 use slips::writing::Quoting;
@@ -137,6 +137,6 @@ pub fn all_sets(board: &mut Board, events: usize, sets: &[i32], log: &mut Log<'_
             count,
         };
         job.set_rules(log);
-        at += 3 + count;
+        at = after(sets, at);
     }
 }

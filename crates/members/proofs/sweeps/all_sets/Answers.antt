@@ -22,7 +22,7 @@ loop-set-preserved c =
     let there : l.set < begun c.args.sets.now 17 = omega arith in
     let m = c.set_rules.ensures in
     let lent : c.set_rules.new.self.board.ghost_name ≡ _ = lent_is m.stays in (
-      reached_next c.requires.0.ranged.few c.requires.1 l.invariant.0 there c.count-count.ensures.0,
+      reached_next c.requires.0.ranged.few c.requires.1 l.invariant.0 there c.after-at.ensures.0,
       leads_on set_of l.set l.invariant.1 (λ j q. q) (leads_to (search rules) m.leads),
       held_as (events_are m.stays) (search rules) c.set_rules.new.self.held,
     )
