@@ -3,14 +3,14 @@ ghost use Rattle.std.specs.Prelude.{◌≡◌, ℕ, cond, ◌<◌, ◌≤◌, po
 ghost use Rattle.integers.specs.Range.{Within};
 ghost use Rattle.integers.specs.Sum.{sum};
 ghost use Rattle.model.specs.Job.{h_min, h_max};
-ghost use Rattle.model.specs.Standing.{Ranged};
 ghost use Rattle.model.specs.View.{side};
-ghost use Rattle.model.specs.Levels.{gain, most_in, most, sure_part};
+ghost use Rattle.model.specs.Levels.{e_min, e_max, gain, most_in, most, sure_part};
 ghost use Rattle.tables.specs.Board.{board};
-ghost use Rattle.levels.specs.Values.{place_of, strict_at, as_view, seen_by, other_gains, Sighted};
+ghost use Rattle.levels.specs.Values.{place_of, strict_at, other_gains};
+ghost use Rattle.levels.specs.Sights.{sees, shows};
 
-use crate::places::{ahead, placed, side_h_max, strict_at};
-use crate::{Place, View};
+use crate::places::side_h_max;
+use crate::{Place, Sight, Stance};
 use tables::{Board, Height, Time};
 
 // An amount and what each of n events adds to it: one loop for all levels, floors and totals. What is added is inlined into it, so that it goes along the board's rows without a branch.
@@ -36,103 +36,77 @@ pub fn gain(p: Place, h: Height) -> Height
     h.kept(p.sure | p.possible & made)
 }
 
-// What event y, as another than e, adds to the level of e, whose time window is u..v, on a side.
-pub fn other_gain(
-    b: &Board,
-    m: bool,
-    strict: bool,
-    later: bool,
-    u: Time,
-    v: Time,
-    y: usize,
-) -> Height
+// What event y, as another than e, adds to the level of e, whose time window is u..v.
+pub fn other_gain(b: &Board, s: Stance, u: Time, v: Time, y: usize) -> Height
     requires { (y < 64) × Within (board b.now.words y h_min) 9999 }
     ensures { result.0
-        ≡ other_gains (strict_at m strict later (board b.now.words)) (side m (board b.now.words)) u.0 v.0 y }
+        ≡ other_gains (strict_at s (board b.now.words)) (side s.mirror (board b.now.words)) u.0 v.0 y }
 {
-    let before = strict_at(b, m, strict, later, y);
-    let surely = ahead(before, b.t_max(y), u);
-    let possibly = ahead(before, b.t_min(y), v);
-    let h = side_h_max(b, m, y);
-    gain(placed(false, before, surely, possibly), h)
+    let h = side_h_max(b, s.mirror, y);
+    gain(s.place(b, u, v, y, false), h)
 }
 
 // What e adds to its own level.
-pub fn own_gain(b: &Board, m: bool, strict: bool, later: bool, e: usize) -> Height
+pub fn own_gain(b: &Board, s: Stance, e: usize) -> Height
     requires { (e < 64) × Within (board b.now.words e h_min) 9999 }
     ensures { result.0
-        ≡ cond (strict_at m strict later (board b.now.words) e) (pos 0) (side m (board b.now.words) e h_max) }
+        ≡ cond (strict_at s (board b.now.words) e) (pos 0) (side s.mirror (board b.now.words) e h_max) }
 {
-    if strict_at(b, m, strict, later, e) {
+    if s.is_before(b, e) {
         Height::ZERO
     } else {
-        side_h_max(b, m, e)
+        side_h_max(b, s.mirror, e)
     }
 }
 
-// The opening stock q and what all events add, e taken for another event: no test for e. The side, before or by, and cover come as literals; as const parameters they would be plainer, but a closure there gets no proof from this kit.
-fn sum_gains(
-    b: &Board,
-    n: usize,
-    q: Height,
-    m: bool,
-    strict: bool,
-    later: bool,
-    u: Time,
-    v: Time,
-) -> Height
-    requires { Ranged n (board b.now.words) × Within q.0 1000000 }
-    ensures { result.0
-        ≡ q.0
-        +ℤ sum n (other_gains (strict_at m strict later (board b.now.words)) (side m (board b.now.words)) u.0 v.0) }
-{
-    added(n, q, |y| other_gain(b, m, strict, later, u, v, y))
-}
-
-impl View {
-    // The same in a view: one of five loops.
-    pub fn all_gains(self, b: &Board, u: Time, v: Time) -> Height
-        requires { Sighted self (board b.now.words) }
-        ensures { result.0 ≡ self.opening.0 +ℤ sum self.events (other_gains (as_view self (board b.now.words)).before (seen_by self (board b.now.words)) u.0 v.0) }
+impl Sight<'_> {
+    // The opening stock and what all events add, e taken for another event, so that there is no test for e; u..v for e's time window.
+    pub fn all_gains(self, u: Time, v: Time) -> Height
+        ensures { result.0 ≡ self.entry.view.opening.0 +ℤ sum self.entry.view.events (other_gains (sees self.entry).before (shows self.entry) u.0 v.0) }
     {
-        let n = self.events;
-        let q = self.opening;
-        match (self.mirror, self.strict, self.later) {
-            (true, true, _) => sum_gains(b, n, q, true, true, false, u, v),
-            (true, false, _) => sum_gains(b, n, q, true, false, false, u, v),
-            (false, true, _) => sum_gains(b, n, q, false, true, false, u, v),
-            (false, false, true) => sum_gains(b, n, q, false, false, true, u, v),
-            (false, false, false) => sum_gains(b, n, q, false, false, false, u, v),
-        }
+        let b = self.board;
+        let n = self.view.events;
+        let q = self.view.opening;
+        self.view
+            .stance
+            .literally(|s| added(n, q, |y| other_gain(b, s, u, v, y)))
     }
 
     // Most before (by) e with u..v for e's time window.
-    pub fn most_in(self, b: &Board, u: Time, v: Time) -> Height
-        requires { Sighted self (board b.now.words) }
-        ensures { result.0 ≡ most_in (as_view self (board b.now.words)) (seen_by self (board b.now.words)) u.0 v.0 }
+    pub fn most_in(self, u: Time, v: Time) -> Height
+        ensures { result.0 ≡ most_in (sees self.entry) (shows self.entry) u.0 v.0 }
     {
-        let m = self.mirror;
-        let strict = self.strict;
-        let later = self.later;
-        let e = self.subject;
-        let all = self.all_gains(b, u, v);
-        let others = all - other_gain(b, m, strict, later, u, v, e);
-        others + own_gain(b, m, strict, later, e)
+        let b = self.board;
+        let e = self.view.subject;
+        let s = self.view.stance;
+        let others = self.all_gains(u, v) - other_gain(b, s, u, v, e);
+        others + own_gain(b, s, e)
+    }
+
+    // t_min(e) and t_max(e).
+    pub fn e_min(self) -> Time
+        ensures { result.0 ≡ e_min (sees self.entry) (shows self.entry) }
+    {
+        self.view.e_min(self.board)
+    }
+
+    pub fn e_max(self) -> Time
+        ensures { result.0 ≡ e_max (sees self.entry) (shows self.entry) }
+    {
+        self.view.e_max(self.board)
     }
 
     // Most before (by) e.
-    pub fn most(self, b: &Board) -> Height
-        requires { Sighted self (board b.now.words) }
-        ensures { result.0 ≡ most (as_view self (board b.now.words)) (seen_by self (board b.now.words)) }
+    pub fn most(self) -> Height
+        ensures { result.0 ≡ most (sees self.entry) (shows self.entry) }
     {
-        self.most_in(b, self.e_min(b), self.e_max(b))
+        self.most_in(self.e_min(), self.e_max())
     }
 
     // The surely-before (by) part with the opening stock: the level where e comes too early for any event to be possibly before (by) it.
-    pub fn sure_part(self, b: &Board) -> Height
-        requires { Sighted self (board b.now.words) }
-        ensures { result.0 ≡ sure_part (as_view self (board b.now.words)) (seen_by self (board b.now.words)) }
+    pub fn sure_part(self) -> Height
+        ensures { result.0 ≡ sure_part (sees self.entry) (shows self.entry) }
     {
-        self.most_in(b, self.e_min(b), Time(-20001))
+        self.most_in(self.e_min(), Time(-20001))
     }
 }

@@ -1,11 +1,11 @@
 // Before and by, an event's place to e, and the mirror: the leaves that compare and negate words.
-ghost use Rattle.std.specs.Prelude.{◌≡◌, ◌<◌};
+ghost use Rattle.std.specs.Prelude.{◌≡◌, cond, ◌<◌, neg_ℤ};
 ghost use Rattle.integers.specs.Range.{Within};
 ghost use Rattle.model.specs.Job.{h_min, h_max, ahead};
 ghost use Rattle.model.specs.View.{side, side_value};
 ghost use Rattle.model.specs.Levels.{placed};
 ghost use Rattle.tables.specs.Board.{board};
-ghost use Rattle.levels.specs.Values.{place_of, strict_at};
+ghost use Rattle.levels.specs.Values.{place_of};
 
 use crate::Place;
 use tables::{Board, Height, Time};
@@ -15,14 +15,6 @@ pub fn ahead(strict: bool, a: Time, b: Time) -> bool
     ensures { result ≡ ahead strict a.0 b.0 }
 {
     if strict { a < b } else { a <= b }
-}
-
-// Is "before" meant of y: wherever the rule is strict, and where deliveries count later, of a delivery on the job's own side.
-pub fn strict_at(b: &Board, m: bool, strict: bool, later: bool, y: usize) -> bool
-    requires { y < 64 }
-    ensures { result ≡ strict_at m strict later (board b.now.words) y }
-{
-    strict || !m && later && b.h_max(y).produces()
 }
 
 // Is it e itself; before or by; the test for surely; the test for possibly.
@@ -41,6 +33,14 @@ pub fn side_h_max(b: &Board, m: bool, y: usize) -> Height
     ensures { result.0 ≡ side m (board b.now.words) y h_max }
 {
     if m { -b.h_min(y) } else { b.h_max(y) }
+}
+
+// Of a least and a most, the limit of a side: the least, in the mirror the most negated.
+pub fn side_limit(m: bool, least: Height, most: Height) -> Height
+    requires { Within most.0 10000000 }
+    ensures { result.0 ≡ cond m (neg_ℤ most.0) least.0 }
+{
+    if m { -most } else { least }
 }
 
 // An amount turned to the other side, or back.

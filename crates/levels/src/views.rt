@@ -9,16 +9,16 @@ ghost use Rattle.tables.specs.Board.{board};
 ghost use Rattle.tables.specs.Job.{reservoir_of};
 ghost use Rattle.levels.specs.Values.{place_of, as_view, seen_by, Views};
 
-use crate::places::{ahead, placed, side_h_max, side_height, strict_at};
-use crate::{Place, View};
+use crate::places::{side_h_max, side_height, side_limit};
+use crate::{Place, Stance, View};
 use tables::{Board, Height, Reservoir, Time, Word};
 
-// The limit of a side: Lmin, in the mirror Lmax negated.
-pub fn side_limit(m: bool, c: Reservoir) -> Height
+// The limit of a side of a cage: of Lmin and Lmax.
+pub fn cage_limit(m: bool, c: Reservoir) -> Height
     requires { SaneCage (reservoir_of c) }
     ensures { result.0 ≡ side_limit m (reservoir_of c) }
 {
-    if m { -c.high } else { c.low }
+    side_limit(m, c.low, c.high)
 }
 
 // The opening stock of a side: Q, in the mirror negated.
@@ -45,10 +45,12 @@ impl View {
         View {
             subject: e,
             events: n,
-            mirror: m,
-            strict,
-            later: counts_later(c),
-            limit: side_limit(m, c),
+            stance: Stance {
+                mirror: m,
+                strict,
+                later: counts_later(c),
+            },
+            limit: cage_limit(m, c),
             opening: side_opening(m, c),
         }
     }
@@ -73,7 +75,7 @@ impl View {
         requires { (y < 64) × Within (board b.now.words y h_min) 9999 }
         ensures { result.0 ≡ seen_by self (board b.now.words) y h_max }
     {
-        side_h_max(b, self.mirror, y)
+        side_h_max(b, self.stance.mirror, y)
     }
 
     // Where y stands to e, whose time window is u..v.
@@ -81,10 +83,7 @@ impl View {
         requires { y < 64 }
         ensures { place_of result ≡ place (as_view self (board b.now.words)) (seen_by self (board b.now.words)) u.0 v.0 y }
     {
-        let strict = strict_at(b, self.mirror, self.strict, self.later, y);
-        let surely = ahead(strict, b.t_max(y), u);
-        let possibly = ahead(strict, b.t_min(y), v);
-        placed(y == self.subject, strict, surely, possibly)
+        self.stance.place(b, u, v, y, y == self.subject)
     }
 
     // Where y stands to e.

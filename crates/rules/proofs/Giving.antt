@@ -15,7 +15,8 @@ use Rattle.tables.specs.declared.Job.{Job}
 use Rattle.levels.specs.Values.{Views}
 use Rattle.levels.specs.declared.View.{View as Sight}
 use Rattle.levels.proofs.Viewing.{rule_here}
-use Rattle.rules.specs.Values.{seen_rule, subjects_of, Lagged}
+use Rattle.rules.specs.Values.{seen_rule, subjects_of, IsLag, Lagged, Timed}
+use Rattle.rules.specs.declared.lags.Lag.{Lag}
 
 -- A rule of 3..14 has events for subjects.
 pub event_subject : (m b : Bool) (f : Family) {q : Rule} (k : Job) (ws : List ℤ) {e : ℕ} → reservoir m b f ≡ q → e < subjects_of q k ws → e < k.events
@@ -35,14 +36,25 @@ lagged {k} {ws} {W} f r g l =
       late = r.range (nat_abs (lag_word ws g 1)) s.real_b t_max;
     }
 
-module _ {k : Job} {ws : List ℤ} (W : Windows) (e y : ℕ) where
-  pub gives_upper : {x : ℤ} → x ≡ W (nat_abs (lag_word ws e 1)) t_max +ℤ lag_word ws e 2 → (j : Call) → Serves k ws W j → bound x ≡ finding lag_upper j W e y
-  unfolding finding
-  gives_upper q j h = rw (q, h.holds.lags_are)
+-- So are its numbers as the code reads them.
+pub timed : {ws : List ℤ} {W : Windows} {g : ℕ} {l : Lag} → Lagged ws W g → IsLag ws g l → Timed l W
+timed h i =
+    record {
+      few_a = rw i.a_is h.sane.real_a;
+      few_b = rw i.b_is h.sane.real_b;
+      gap_range = rw i.gap_is h.sane.gap_range;
+      early = rw i.a_is h.early;
+      late = rw i.b_is h.late;
+    }
 
-  pub gives_lower : {x : ℤ} → x ≡ W (nat_abs (lag_word ws e 0)) t_min -ℤ lag_word ws e 2 → (j : Call) → Serves k ws W j → bound x ≡ finding lag_lower j W e y
+module _ {k : Job} {ws : List ℤ} (W : Windows) (e y : ℕ) where
+  pub gives_upper : {l : Lag} → IsLag ws e l → {x : ℤ} → x ≡ W l.b t_max +ℤ l.gap.0 → (j : Call) → Serves k ws W j → bound x ≡ finding lag_upper j W e y
   unfolding finding
-  gives_lower q j h = rw (q, h.holds.lags_are)
+  gives_upper i q j h = rw (q, h.holds.lags_are, i.b_is, i.gap_is)
+
+  pub gives_lower : {l : Lag} → IsLag ws e l → {x : ℤ} → x ≡ W l.a t_min -ℤ l.gap.0 → (j : Call) → Serves k ws W j → bound x ≡ finding lag_lower j W e y
+  unfolding finding
+  gives_lower i q j h = rw (q, h.holds.lags_are, i.a_is, i.gap_is)
 
   -- A reservoir rule by its view.
   pub gives_seen : (m b : Bool) (g : Family) {v : Sight} {f : Finding} → Views k.events (reservoir_of k.reservoir) m b e v → e < k.events → y < k.events → f ≡ seen_rule g v W y →

@@ -5,6 +5,7 @@ use Rattle.std.specs.Int.Signed.{le_z}
 use Rattle.integers.specs.Range.{Within}
 use Rattle.model.specs.Job.{End, t_min, t_max, opposite, meets, Windows, lag_word, Job as Call}
 use Rattle.model.specs.Standing.{SaneLag, span, Ranged}
+use Rattle.tables.specs.Board.{board}
 use Rattle.model.specs.View.{View}
 use Rattle.model.specs.Levels.{e_min, most_in}
 use Rattle.model.specs.Rules.{Finding, nothing, clash, bound, Family, level, time, height, Rule, lag_upper, lag_lower, reservoir, total, family_rule, family_end, side_finding, finding, own_end, Effect, idle, narrows, fails, effect}
@@ -67,7 +68,7 @@ finding_of (Bound w) = bound w.0
 
 -- What a family of rules gives in a view, read back from its side.
 abbrev pub seen_rule : Family → Sight → Windows → ℕ → Finding
-seen_rule f v W y = side_finding v.mirror (family_end f) (family_rule f (as_view v W) (seen_by v W) y)
+seen_rule f v W y = side_finding v.stance.mirror (family_end f) (family_rule f (as_view v W) (seen_by v W) y)
 
 -- ---- what that does
 
@@ -107,6 +108,14 @@ pub record Lagged (ws : List ℤ) (W : Windows) (g : ℕ) : Type 0 where
   pub early : Within (W (nat_abs (lag_word ws g 0)) t_min) 20000
   pub late : Within (W (nat_abs (lag_word ws g 1)) t_max) 20000
 
+-- The code's lag is of events of a board, its numbers and their times on windows W in range.
+pub record Timed (l : Lag) (W : Windows) : Type 0 where
+  pub few_a : l.a < 64
+  pub few_b : l.b < 64
+  pub gap_range : Within l.gap.0 20000
+  pub early : Within (W l.a t_min) 20000
+  pub late : Within (W l.b t_max) 20000
+
 -- The subjects that a rule of 1..14 has: lags, or events. Sets are no part of a job of one cage.
 abbrev pub subjects_of : Rule → Job → List ℤ → ℕ
 subjects_of lag_upper k ws = length ws / 3
@@ -120,6 +129,10 @@ pub record Tries (k : Job) (ws : List ℤ) (W : Windows) (r : Rule) (e y : ℕ) 
   pub windows : Ranged k.events W
   pub subject : e < subjects_of r k ws
   pub target : y < k.events
+
+-- So is the code's rule on a board's words.
+abbrev pub Tried : Job → List ℤ → List ℤ → Named → ℕ → ℕ → Type 0
+Tried k ws b r e y = Tries k ws (board b) (rule_of r) e y
 
 -- The bound v at y's end k is stricter than it, and keeps the opposite end.
 abbrev pub Narrower : Windows → ℕ → End → ℤ → Type 0

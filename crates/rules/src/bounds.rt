@@ -6,21 +6,20 @@ ghost use Rattle.model.specs.Job.{t_min, h_min, h_max};
 ghost use Rattle.model.specs.Levels.{stands, most};
 ghost use Rattle.model.specs.Rules.{counts_from, earlier, given_if, bound, possible_producer, reached_at, earliest, time_rule, targeted};
 ghost use Rattle.tables.specs.Board.{board};
-ghost use Rattle.levels.specs.Values.{place_of, as_view, seen_by, Sighted};
+ghost use Rattle.levels.specs.Values.{place_of, as_view, seen_by};
+ghost use Rattle.levels.specs.Sights.{sees, shows};
 ghost use Rattle.rules.specs.Values.{time_found, is_beaten, falls_short, Short};
 
-use levels::places::strict_at;
-use levels::{Place, View};
+use levels::{Place, Sight, View};
 use tables::{Board, Height, Time};
 
 // ---- the level
 
 // Rules 3 and 9: is most before (by) e below the limit?
-pub fn level_clashes(b: &Board, view: View) -> bool
-    requires { Sighted view (board b.now.words) }
-    ensures { result ≡ lt_z (most (as_view view (board b.now.words)) (seen_by view (board b.now.words))) view.limit.0 }
+pub fn level_clashes(s: Sight) -> bool
+    ensures { result ≡ lt_z (most (sees s.entry) (shows s.entry)) s.entry.view.limit.0 }
 {
-    view.most(b) < view.limit
+    s.most() < s.view.limit
 }
 
 // ---- e's time
@@ -34,12 +33,12 @@ pub fn counts_from(strict: bool, t: Time) -> Time
 }
 
 // The time of e from which y counts.
-fn starts(b: &Board, view: View, y: usize) -> Time
-    requires { (y < 64) × Within (board b.now.words y t_min) 20000 }
-    ensures { result.0 ≡ counts_from ((as_view view (board b.now.words)).before y) (seen_by view (board b.now.words) y t_min) }
+fn starts(s: Sight, y: usize) -> Time
+    requires { y < s.view.events }
+    ensures { result.0 ≡ counts_from ((sees s.entry).before y) (shows s.entry y t_min) }
 {
-    let before = strict_at(b, view.mirror, view.strict, view.later, y);
-    counts_from(before, b.t_min(y))
+    let before = s.view.stance.is_before(s.board, y);
+    counts_from(before, s.board.t_min(y))
 }
 
 // A delivery possibly, not surely, before (by).
@@ -51,24 +50,19 @@ pub fn possible_producer(p: Place, h: Height) -> bool
 }
 
 // Is y a delivery possibly, not surely, before (by) e?
-fn may_count(b: &Board, view: View, y: usize) -> bool
-    requires { (view.subject < 64) × (y < 64) × Within (board b.now.words y h_min) 9999 }
-    ensures { result
-        ≡ possible_producer (stands (as_view view (board b.now.words)) (seen_by view (board b.now.words)) y) (seen_by view (board b.now.words) y h_max) }
+fn may_count(s: Sight, y: usize) -> bool
+    requires { y < s.view.events }
+    ensures { result ≡ possible_producer (stands (sees s.entry) (shows s.entry) y) (shows s.entry y h_max) }
 {
-    possible_producer(view.stands(b, y), view.seen_h_max(b, y))
+    possible_producer(s.view.stands(s.board, y), s.view.seen_h_max(s.board, y))
 }
 
 // Is the limit reached at y, with e no later than y counts from?
-pub fn reached_at(b: &Board, view: View, y: usize) -> bool
-    requires { Sighted view (board b.now.words) × (y < view.events) }
-    ensures { result ≡ reached_at (as_view view (board b.now.words)) (seen_by view (board b.now.words)) y }
+pub fn reached_at(s: Sight, y: usize) -> bool
+    requires { y < s.view.events }
+    ensures { result ≡ reached_at (sees s.entry) (shows s.entry) y }
 {
-    if may_count(b, view, y) {
-        view.limit <= view.most_in(b, view.e_min(b), starts(b, view, y))
-    } else {
-        false
-    }
+    may_count(s, y) && s.view.limit <= s.most_in(s.e_min(), starts(s, y))
 }
 
 // The search for the earliest time at which the limit is reached: the earliest found, and the latest at which it was found not to be.
@@ -93,57 +87,56 @@ fn falls_short(short: Option<Time>, t: Time) -> bool
 }
 
 // The search goes on with y. The level is asked for only where y's time lies between the two.
-pub fn search_event(b: &Board, view: View, y: usize, s: Search) -> Search
-    requires { Sighted view (board b.now.words)
-        × (y < view.events)
-        × Short (as_view view (board b.now.words)) (seen_by view (board b.now.words)) s.short }
+pub fn search_event(s: Sight, y: usize, found: Search) -> Search
+    requires { (y < s.view.events) × Short (sees s) (shows s) found.short }
     ensures { (time_found result.best
-        ≡ earlier (time_found s.best)
-        (given_if (reached_at (as_view view (board b.now.words)) (seen_by view (board b.now.words)) y)
-        (bound (counts_from ((as_view view (board b.now.words)).before y) (seen_by view (board b.now.words) y t_min)))))
-        × Short (as_view view (board b.now.words)) (seen_by view (board b.now.words)) result.short }
+        ≡ earlier (time_found found.best)
+        (given_if (reached_at (sees s.entry) (shows s.entry) y)
+        (bound (counts_from ((sees s.entry).before y) (shows s.entry y t_min)))))
+        × Short (sees s.entry) (shows s.entry) result.short }
 {
-    let t = starts(b, view, y);
-    if is_beaten(s.best, t) {
-        return s;
+    let t = starts(s, y);
+    if is_beaten(found.best, t) {
+        return found;
     }
-    if falls_short(s.short, t) {
-        return s;
+    if falls_short(found.short, t) {
+        return found;
     }
-    if reached_at(b, view, y) {
-        return Search { best: Some(t), ..s };
-    }
-    if may_count(b, view, y) {
+    if reached_at(s, y) {
         return Search {
-            short: Some(t),
-            ..s
+            best: Some(t),
+            ..found
         };
     }
-    s
+    if may_count(s, y) {
+        return Search {
+            short: Some(t),
+            ..found
+        };
+    }
+    found
 }
 
 // The earliest time of e at which the limit is reached.
-pub fn earliest(b: &Board, view: View) -> Option<Time>
-    requires { Sighted view (board b.now.words) }
-    ensures { time_found result ≡ earliest (as_view view (board b.now.words)) (seen_by view (board b.now.words)) view.events }
+pub fn earliest(s: Sight) -> Option<Time>
+    ensures { time_found result ≡ earliest (sees s.entry) (shows s.entry) s.entry.view.events }
 {
-    let mut s = Search {
+    let mut found = Search {
         best: None,
         short: None,
     };
-    for y in 0..view.events {
-        s = search_event(b, view, y, s);
+    for y in 0..s.view.events {
+        found = search_event(s, y, found);
     }
-    s.best
+    found.best
 }
 
 // Rules 4 and 10: where the sure part is below the limit, the earliest time at which it is reached.
-pub fn time_rule(b: &Board, view: View) -> Option<Time>
-    requires { Sighted view (board b.now.words) }
-    ensures { time_found result ≡ time_rule (as_view view (board b.now.words)) (seen_by view (board b.now.words)) }
+pub fn time_rule(s: Sight) -> Option<Time>
+    ensures { time_found result ≡ time_rule (sees s.entry) (shows s.entry) }
 {
-    if view.sure_part(b) < view.limit {
-        earliest(b, view)
+    if s.sure_part() < s.view.limit {
+        earliest(s)
     } else {
         None
     }
@@ -169,12 +162,10 @@ pub fn is_target(b: &Board, view: View, y: usize) -> bool
 }
 
 // Rules 5 and 11: h(y) ≥ Lmin − (most before (by) e − h_max(y)).
-pub fn height_bound(b: &Board, view: View, y: usize) -> Height
-    requires { Sighted view (board b.now.words) × (y < view.events) }
-    ensures { result.0
-        ≡ view.limit.0
-        -ℤ (most (as_view view (board b.now.words)) (seen_by view (board b.now.words)) -ℤ seen_by view (board b.now.words) y h_max) }
+pub fn height_bound(s: Sight, y: usize) -> Height
+    requires { y < s.view.events }
+    ensures { result.0 ≡ s.entry.view.limit.0 -ℤ (most (sees s.entry) (shows s.entry) -ℤ shows s.entry y h_max) }
 {
-    let others = view.most(b) - view.seen_h_max(b, y);
-    view.limit - others
+    let others = s.most() - s.view.seen_h_max(s.board, y);
+    s.view.limit - others
 }

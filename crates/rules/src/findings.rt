@@ -1,25 +1,21 @@
 // What each rule gives.
 ghost use Rattle.std.specs.Prelude.{◌≡◌, ◌<◌};
-ghost use Rattle.model.specs.Job.{Job as Call};
-ghost use Rattle.model.specs.Rules.{level, time, height, finding};
+ghost use Rattle.model.specs.Rules.{level, time, height};
 ghost use Rattle.tables.specs.Board.{board};
-ghost use Rattle.tables.specs.Job.{Serves};
-ghost use Rattle.levels.specs.Values.{Sighted};
-ghost use Rattle.rules.specs.Values.{family_of, rule_of, finding_of, seen_rule, Tries};
+ghost use Rattle.rules.specs.Values.{family_of, finding_of, seen_rule};
+ghost use Rattle.rules.specs.Attempts.{Gives};
 
 use crate::bounds::{height_bound, is_target, level_clashes, time_rule};
-use crate::lags::{lag_lower, lag_upper};
-use crate::{Family, Finding, Rule};
-use levels::View;
+use crate::lags::Lag;
+use crate::{Attempt, Family, Finding, Rule};
+use levels::Sight;
 use levels::places::side_height;
-use tables::{Board, Job};
 
 // Rules 3, 6, 9, 12: a conflict of the levels, or nothing.
-pub fn level_finding(b: &Board, view: View) -> Finding
-    requires { Sighted view (board b.now.words) }
-    ensures { finding_of result ≡ seen_rule level view (board b.now.words) view.subject }
+pub fn level_finding(s: Sight) -> Finding
+    ensures { finding_of result ≡ seen_rule level s.entry.view (board s.entry.board.now.words) s.entry.view.subject }
 {
-    if level_clashes(b, view) {
+    if level_clashes(s) {
         Finding::Clash
     } else {
         Finding::Nothing
@@ -27,53 +23,61 @@ pub fn level_finding(b: &Board, view: View) -> Finding
 }
 
 // Rules 4, 7, 10, 13: a bound on e's time, or nothing.
-pub fn time_finding(b: &Board, view: View) -> Finding
-    requires { Sighted view (board b.now.words) }
-    ensures { finding_of result ≡ seen_rule time view (board b.now.words) view.subject }
+pub fn time_finding(s: Sight) -> Finding
+    ensures { finding_of result ≡ seen_rule time s.entry.view (board s.entry.board.now.words) s.entry.view.subject }
 {
-    match time_rule(b, view) {
+    match time_rule(s) {
         Some(t) => Finding::Bound(t.into()),
         None => Finding::Nothing,
     }
 }
 
 // Rules 5, 8, 11, 14: a bound on y's amount, or nothing.
-pub fn height_finding(b: &Board, view: View, y: usize) -> Finding
-    requires { Sighted view (board b.now.words) × (y < view.events) }
-    ensures { finding_of result ≡ seen_rule height view (board b.now.words) y }
+pub fn height_finding(s: Sight, y: usize) -> Finding
+    requires { y < s.view.events }
+    ensures { finding_of result ≡ seen_rule height s.entry.view (board s.entry.board.now.words) y }
 {
-    if is_target(b, view, y) {
-        let h = height_bound(b, view, y);
-        Finding::Bound(side_height(view.mirror, h).into())
+    if is_target(s.board, s.view, y) {
+        let h = height_bound(s, y);
+        Finding::Bound(side_height(s.view.stance.mirror, h).into())
     } else {
         Finding::Nothing
     }
 }
 
 // What a family of rules gives in a view, with target y.
-fn family_finding(b: &Board, view: View, f: Family, y: usize) -> Finding
-    requires { Sighted view (board b.now.words) × (y < view.events) }
-    ensures { finding_of result ≡ seen_rule (family_of f) view (board b.now.words) y }
+fn family_finding(s: Sight, f: Family, y: usize) -> Finding
+    requires { y < s.view.events }
+    ensures { finding_of result ≡ seen_rule (family_of f) s.entry.view (board s.entry.board.now.words) y }
 {
     match f {
-        Family::Level => level_finding(b, view),
-        Family::Time => time_finding(b, view),
-        Family::Height => height_finding(b, view, y),
+        Family::Level => level_finding(s),
+        Family::Time => time_finding(s),
+        Family::Height => height_finding(s, y),
     }
 }
 
-// What rule r of 1..14 gives for a subject e (a lag number in rules 1 and 2) and a target y.
-pub fn finding(b: &Board, lags: &[i32], k: Job, r: Rule, e: usize, y: usize) -> Finding
-    requires { Tries k lags.now (board b.now.words) (rule_of r) e y }
-    ensures { (j : Call) →
-        Serves k lags.now (board b.now.words) j →
-        finding_of result ≡ finding (rule_of r) j (board b.now.words) e y }
-{
-    match r {
-        Rule::LagUpper => Finding::Bound(lag_upper(b, lags, e).into()),
-        Rule::LagLower => Finding::Bound(lag_lower(b, lags, e).into()),
-        Rule::Reservoir(v) => family_finding(b, v.view(k, e), v.family, y),
-        // No such rule is tried here.
-        Rule::Total { mirror: _ } => Finding::Nothing,
+impl Attempt<'_> {
+    // What the rule gives.
+    pub fn finding(self) -> Finding
+        ensures { Gives self.entry result }
+    {
+        match self.rule {
+            Rule::LagUpper => {
+                Finding::Bound(Lag::of_table(self.lags, self.subject).upper(self.board).into())
+            }
+            Rule::LagLower => {
+                Finding::Bound(Lag::of_table(self.lags, self.subject).lower(self.board).into())
+            }
+            Rule::Reservoir(v) => {
+                let sight = Sight {
+                    board: self.board,
+                    view: v.view(self.job, self.subject),
+                };
+                family_finding(sight, v.family, self.target)
+            }
+            // No such rule is tried here.
+            Rule::Total { mirror: _ } => Finding::Nothing,
+        }
     }
 }

@@ -7,7 +7,9 @@ pub mod numbers; // numbers.rt: the rules and their numbers
 pub mod findings; // findings.rt: what each rule gives
 pub mod effects; // effects.rt: what that does to the target's window
 
-use tables::Word;
+ghost use Rattle.rules.specs.Values.{Tried};
+
+use tables::{Board, Job, Word};
 
 // What a reservoir rule is about: the level's conflict, e's time, an amount.
 #[derive(Clone, Copy, PartialEq, Eq)]
@@ -48,4 +50,16 @@ pub enum Effect {
     Idle,
     Narrows(Word),
     Fails,
+}
+
+// A rule of 1..14 that is tried: the board and the lag words of a job of one cage, the rule, its subject (a lag number in rules 1 and 2) and its target.
+#[derive(Clone, Copy)]
+pub struct Attempt<'a> {
+    pub board: &'a Board,
+    pub lags: &'a [i32],
+    pub job: Job,
+    pub rule: Rule,
+    pub subject: usize,
+    pub target: usize,
+    pub ghost tried: { Tried job lags.now board.now.words rule subject target },
 }
