@@ -1,13 +1,13 @@
 -- Views as the code makes them: they are the definitions', and their numbers are in range.
 -- Assumes nothing.
-use mathlib.Core.Path.{◌≡◌, sym, ap, ap₂, ◌∙◌}
+use mathlib.Core.Path.{◌≡◌, refl, sym, ap, ap₂, fun_ext, ◌∙◌}
 use mathlib.Core.Bool.{Bool, true, false, not, ◌&&◌, ◌||◌}
 use mathlib.Core.List.{List}
 use Prim.Native.Nat.{ℕ, ◌<◌}
 use lib.IntN.{ℤ, pos}
 use Rattle.integers.specs.Range.{Within, eq_z}
 use Rattle.integers.proofs.Linear.{ints, neg_law}
-use Rattle.model.specs.Job.{h_max, Windows, Reservoir, Job, events, home}
+use Rattle.model.specs.Job.{h_max, Windows, produces, Reservoir, Job, events, home}
 use Rattle.model.specs.Standing.{SaneCage, Ranged}
 use Rattle.model.specs.View.{side_value, side, side_limit, View, view_of, view, seen}
 use Rattle.model.specs.Levels.{most}
@@ -16,8 +16,19 @@ use Rattle.model.proofs.Agree.{Agree, at_hand, most_agree, family_rule_agree}
 use Rattle.tables.specs.Job.{reservoir_of, Serves}
 use Rattle.tables.specs.declared.Job.{Job as Code}
 use Rattle.tables.proofs.Holding.{home_same, seen_side}
-use Rattle.levels.specs.Values.{Views, Sighted}
+use Rattle.levels.specs.Values.{strict_at, plainly, Views, Sighted}
+use Rattle.levels.specs.declared.Stance.{Stance}
 use Rattle.levels.specs.declared.View.{View as Sight}
+
+-- Cover 0 says nothing to a rule that is strict, or of the mirror.
+pub plainly_same : (s : Stance) (W : Windows) → strict_at (plainly s) W ≡ strict_at s W
+plainly_same s W = fun_ext (λ y. go s.mirror s.strict s.later (produces (W y h_max)))
+  where
+    go : (m b l p : Bool) → (b || (not m && ((l && (not m && not b)) && p))) ≡ (b || (not m && (l && p)))
+    go m true l p = refl
+    go true false l p = refl
+    go false false true p = refl
+    go false false false p = refl
 
 pub limit_within : (m : Bool) (c : Reservoir) → SaneCage c → Within (side_limit m c) 1000000
 limit_within true c s = let h = s.max_range in omega (ints, neg_law c.max_level)

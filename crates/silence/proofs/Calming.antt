@@ -26,6 +26,8 @@ use Rattle.tables.specs.Job.{reservoir_of, Serves}
 use Rattle.tables.specs.declared.Job.{Job as Code}
 use Rattle.levels.proofs.Viewing.{here_view}
 use Rattle.levels.proofs.Adding.{kept_within, side_ranged, within_sum, own_term, other_term}
+use Rattle.rules.specs.Values.{IsLag}
+use Rattle.rules.specs.declared.lags.Lag.{Lag}
 use Rattle.silence.specs.Calm.{reaches_early, floor_gain, floor_of, larger, spread_of, floored, calm, drain, deep, ordered, all_calm, lag_kept}
 use Rattle.silence.proofs.Sparing.{width_side, idle_here}
 
@@ -293,19 +295,15 @@ all_calm_each n c W e d r l q =
 
 -- ---- lags
 
-pub kept_at : (ws : List ℤ) (W : Windows) (g : ℕ) {a b : ℕ} {top low : ℤ} {x y : Bool} → a ≡ nat_abs (lag_word ws g 0) → b ≡ nat_abs (lag_word ws g 1) →
-    top ≡ W (nat_abs (lag_word ws g 1)) t_max +ℤ lag_word ws g 2 → low ≡ W (nat_abs (lag_word ws g 0)) t_min -ℤ lag_word ws g 2 →
-    x ≡ (le_z (W a t_min) top && le_z (W a t_max) top) → y ≡ (le_z low (W b t_max) && le_z low (W b t_min)) → (x && y) ≡ lag_kept ws W g
-kept_at ws W g a b top low p q = rw (p, q, top, low, a, b)
-
-pub lag_idle : (j : Job) (W : Windows) (g : ℕ) → lag_kept j.lag_table W g ≡ true → Idle lag_upper j W g (lag_a j g) × Idle lag_lower j W g (lag_b j g)
+-- A lag of a call, as the code holds it.
+pub lag_idle : (j : Job) (W : Windows) (g : ℕ) {l : Lag} → IsLag j.lag_table g l → lag_kept l W ≡ true → Idle lag_upper j W g (lag_a j g) × Idle lag_lower j W g (lag_b j g)
 unfolding finding
-lag_idle j W g h =
+lag_idle j W g {l} i h =
     let top = W (lag_b j g) t_max +ℤ lag_d j g in
     let low = W (lag_a j g) t_min -ℤ lag_d j g in
-    go (le_z (W (lag_a j g) t_min) top) (le_z (W (lag_a j g) t_max) top) (le_z low (W (lag_b j g) t_max)) (le_z low (W (lag_b j g) t_min)) h
+    go (le_z (W (lag_a j g) t_min) top) (le_z (W (lag_a j g) t_max) top) (le_z low (W (lag_b j g) t_min)) (le_z low (W (lag_b j g) t_max)) (rw (i.a_is, i.b_is, i.gap_is) at h)
   where
-    go : (a b c d : Bool) → ((a && b) && (c && d)) ≡ true → (cond a (cond b idle (narrows (W (lag_b j g) t_max +ℤ lag_d j g))) fails ≡ idle) × (cond c (cond d idle (narrows (W (lag_a j g) t_min -ℤ lag_d j g))) fails ≡ idle)
+    go : (a b c d : Bool) → ((a && b) && (c && d)) ≡ true → (cond a (cond b idle (narrows (W (lag_b j g) t_max +ℤ lag_d j g))) fails ≡ idle) × (cond d (cond c idle (narrows (W (lag_a j g) t_min -ℤ lag_d j g))) fails ≡ idle)
     go true true true true e = (refl, refl)
     go true true true false e = absurd (subst T (sym e) tt)
     go true true false d e = absurd (subst T (sym e) tt)

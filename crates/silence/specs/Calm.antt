@@ -1,10 +1,11 @@
 -- Sums that show rules to do nothing: 3 and 4 at an event, 3 to 14 at an event or at all; and lags that are kept.
-use Rattle.std.specs.Prelude.{Bool, true, false, not, cond, ◌&&◌, ◌||◌, List, ℕ, zero, suc, ℤ, pos, nat_abs, ◌+ℤ◌, ◌-ℤ◌}
+use Rattle.std.specs.Prelude.{Bool, true, false, not, cond, ◌&&◌, ◌||◌, ℕ, zero, suc, ℤ, pos, ◌+ℤ◌, ◌-ℤ◌}
 use Rattle.std.specs.Int.Signed.{le_z, lt_z}
 use Rattle.integers.specs.Sum.{sum}
-use Rattle.model.specs.Job.{t_min, t_max, h_min, h_max, Windows, produces, Reservoir, lag_word}
+use Rattle.model.specs.Job.{End, t_min, t_max, h_min, h_max, meets, Windows, produces, Reservoir}
 use Rattle.model.specs.View.{side_value, side, side_limit, View}
 use Rattle.model.specs.Levels.{e_min, e_max, most_in}
+use Rattle.rules.specs.declared.lags.Lag.{Lag}
 
 -- The level of e reaches the limit already with e at its earliest minute: then rules 3 and 4 (9 and 10) do nothing.
 abbrev pub reaches_early : View → Windows → Bool
@@ -52,10 +53,10 @@ ordered (suc y) W = ordered y W && le_z (W y t_min) (W y t_max)
 abbrev pub all_calm : ℕ → Reservoir → Windows → ℤ → Bool
 all_calm n c W d = deep false n c W (d +ℤ pos 9999) && (deep true n c W (d +ℤ pos 9999) && ordered n W)
 
--- Rules 1 and 2 of lag g leave both windows as they are.
-abbrev pub lag_kept : List ℤ → Windows → ℕ → Bool
-lag_kept ws W g =
-    let a = nat_abs (lag_word ws g 0) in
-    let b = nat_abs (lag_word ws g 1) in
-    let d = lag_word ws g 2 in
-    ((le_z (W a t_min) (W b t_max +ℤ d) && le_z (W a t_max) (W b t_max +ℤ d)) && (le_z (W a t_min -ℤ d) (W b t_max) && le_z (W a t_min -ℤ d) (W b t_min)))
+-- Both ends of a time window keep the bound v at an end k.
+abbrev pub keeps : End → ℤ → (End → ℤ) → Bool
+keeps k v w = meets k v (w t_min) && meets k v (w t_max)
+
+-- Rules 1 and 2 of a lag leave both windows as they are.
+abbrev pub lag_kept : Lag → Windows → Bool
+lag_kept l W = keeps t_max (W l.b t_max +ℤ l.gap.0) (W l.a) && keeps t_min (W l.a t_min -ℤ l.gap.0) (W l.b)

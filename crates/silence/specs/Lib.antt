@@ -1,2 +1,3 @@
 pub mod Slack
 pub mod Calm
+pub mod Standing

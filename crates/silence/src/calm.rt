@@ -1,35 +1,35 @@
 // Sums that show rules at an event, and lags, to do nothing, so that they are passed over.
 ghost use Rattle.std.specs.Prelude.{◌≡◌, ◌&&◌, ◌<◌, ◌≤◌, ◌+ℤ◌};
-ghost use Rattle.std.specs.Int.Signed.{le_z};
 ghost use Rattle.integers.specs.Range.{Within};
 ghost use Rattle.integers.specs.Sum.{sum};
-ghost use Rattle.model.specs.Job.{t_min, t_max, h_min};
-ghost use Rattle.model.specs.Standing.{SaneCage, Ranged};
+ghost use Rattle.model.specs.Job.{t_min, t_max, h_min, meets};
+ghost use Rattle.model.specs.Standing.{Ranged};
 ghost use Rattle.model.specs.View.{side};
 ghost use Rattle.tables.specs.Board.{board};
+ghost use Rattle.tables.specs.Ends.{end_of};
 ghost use Rattle.tables.specs.Job.{reservoir_of};
-ghost use Rattle.levels.specs.Values.{as_view, seen_by, Sighted};
-ghost use Rattle.rules.specs.Values.{Lagged};
-ghost use Rattle.silence.specs.Calm.{reaches_early, floor_gain, larger, spread_of, floored, calm, drain, deep, ordered, all_calm, lag_kept};
+ghost use Rattle.levels.specs.Sights.{sees, shows};
+ghost use Rattle.rules.specs.Values.{Timed};
+ghost use Rattle.silence.specs.Calm.{reaches_early, floor_gain, spread_of, floored, calm, drain, deep, ordered, all_calm, lag_kept};
 
+use crate::OneCage;
 use crate::slack::width;
-use levels::View;
+use levels::Sight;
 use levels::levels::added;
 use levels::places::side_h_max;
-use levels::views::{side_limit, side_opening};
-use rules::lags::{Lag, lag_lower, lag_upper};
-use tables::{Board, Height, MOST_AMOUNT, Reservoir, Time};
+use levels::views::{cage_limit, side_opening};
+use rules::lags::Lag;
+use tables::{Board, End, Height, MOST_AMOUNT, Time, Word};
 
 // ---- rules 3 and 4
 
 // Does e's level reach the limit already with e at its earliest minute?
-pub fn reaches_early(b: &Board, view: View) -> bool
-    requires { Sighted view (board b.now.words) }
-    ensures { result ≡ reaches_early (as_view view (board b.now.words)) (seen_by view (board b.now.words)) }
+pub fn reaches_early(s: Sight) -> bool
+    ensures { result ≡ reaches_early (sees s.entry) (shows s.entry) }
 {
-    let u = view.e_min(b);
-    let ordered = u <= view.e_max(b);
-    let reached = view.limit <= view.most_in(b, u, u);
+    let u = s.e_min();
+    let ordered = u <= s.e_max();
+    let reached = s.view.limit <= s.most_in(u, u);
     ordered & reached
 }
 
@@ -64,22 +64,27 @@ fn drain(b: &Board, m: bool, y: usize) -> Height
     h.kept(!h.produces())
 }
 
-// Does the floor lie over the limit by d?
-fn is_floored(b: &Board, n: usize, c: Reservoir, m: bool, e: usize, d: Height) -> bool
-    requires { Ranged n (board b.now.words) × SaneCage (reservoir_of c) × (e < n) × Within d.0 20000 }
-    ensures { result ≡ floored m n (reservoir_of c) (board b.now.words) e d.0 }
-{
-    let all = floor_gains(b, n, side_opening(m, c), m, b.t_min(e));
-    let floor = all + drain(b, m, e);
-    side_limit(m, c) + d <= floor
-}
+impl OneCage<'_> {
+    // Does the floor at e lie over the limit of a side by d?
+    fn is_floored(self, m: bool, e: usize, d: Height) -> bool
+        requires { (e < self.job.events) × Within d.0 20000 }
+        ensures { result ≡ floored m self.entry.job.events (reservoir_of self.entry.job.reservoir) (board self.entry.board.now.words) e d.0 }
+    {
+        let b = self.board;
+        let c = self.job.reservoir;
+        let all = floor_gains(b, self.job.events, side_opening(m, c), m, b.t_min(e));
+        let floor = all + drain(b, m, e);
+        cage_limit(m, c) + d <= floor
+    }
 
-// Does it do so on both sides?
-pub fn is_calm(b: &Board, n: usize, c: Reservoir, e: usize, d: Height) -> bool
-    requires { Ranged n (board b.now.words) × SaneCage (reservoir_of c) × (e < n) × Within d.0 20000 }
-    ensures { result ≡ calm n (reservoir_of c) (board b.now.words) e d.0 }
-{
-    is_floored(b, n, c, false, e, d) && is_floored(b, n, c, true, e, d) && b.t_min(e) <= b.t_max(e)
+    // Does it do so on both sides?
+    pub fn is_calm(self, e: usize, d: Height) -> bool
+        requires { (e < self.job.events) × Within d.0 20000 }
+        ensures { result ≡ calm self.entry.job.events (reservoir_of self.entry.job.reservoir) (board self.entry.board.now.words) e d.0 }
+    {
+        let b = self.board;
+        self.is_floored(false, e, d) && self.is_floored(true, e, d) && b.t_min(e) <= b.t_max(e)
+    }
 }
 
 // ---- rules 3 to 14 at every event
@@ -90,15 +95,6 @@ fn drained(b: &Board, n: usize, q: Height, m: bool) -> Height
     ensures { result.0 ≡ q.0 +ℤ sum n (drain (side m (board b.now.words))) }
 {
     added(n, q, |y| drain(b, m, y))
-}
-
-// Does that lie over the limit by d?
-fn is_deep(b: &Board, n: usize, c: Reservoir, m: bool, d: Height) -> bool
-    requires { Ranged n (board b.now.words) × SaneCage (reservoir_of c) × Within d.0 30000 }
-    ensures { result ≡ deep m n (reservoir_of c) (board b.now.words) d.0 }
-{
-    let least = drained(b, n, side_opening(m, c), m);
-    side_limit(m, c) + d <= least
 }
 
 // Does no event end before it begins? The loop has no branch: `all` would stop at the first that does, and go event by event.
@@ -113,25 +109,31 @@ fn are_ordered(b: &Board, n: usize) -> bool
     all
 }
 
-// Is every event calm, since even all that can be taken leaves the limits far off?
-pub fn are_calm(b: &Board, n: usize, c: Reservoir, d: Height) -> bool
-    requires { Ranged n (board b.now.words) × SaneCage (reservoir_of c) × Within d.0 20000 }
-    ensures { result ≡ all_calm n (reservoir_of c) (board b.now.words) d.0 }
-{
-    let reach = d + Height(MOST_AMOUNT);
-    let low = is_deep(b, n, c, false, reach);
-    let high = is_deep(b, n, c, true, reach);
-    let ordered = are_ordered(b, n);
-    low & (high & ordered)
+impl OneCage<'_> {
+    // Does that lie over the limit of a side by d?
+    fn is_deep(self, m: bool, d: Height) -> bool
+        requires { Within d.0 30000 }
+        ensures { result ≡ deep m self.entry.job.events (reservoir_of self.entry.job.reservoir) (board self.entry.board.now.words) d.0 }
+    {
+        let c = self.job.reservoir;
+        let least = drained(self.board, self.job.events, side_opening(m, c), m);
+        cage_limit(m, c) + d <= least
+    }
+
+    // Is every event calm, since even all that can be taken leaves the limits far off?
+    pub fn are_calm(self, d: Height) -> bool
+        requires { Within d.0 20000 }
+        ensures { result ≡ all_calm self.entry.job.events (reservoir_of self.entry.job.reservoir) (board self.entry.board.now.words) d.0 }
+    {
+        let reach = d + Height(MOST_AMOUNT);
+        let low = self.is_deep(false, reach);
+        let high = self.is_deep(true, reach);
+        let ordered = are_ordered(self.board, self.job.events);
+        low & (high & ordered)
+    }
 }
 
 // ---- the largest width
-
-fn larger(a: Height, w: Height) -> Height
-    ensures { result.0 ≡ larger a.0 w.0 }
-{
-    a.max(w)
-}
 
 // The largest width of an amount window, at least 0.
 pub fn spread(b: &Board, n: usize) -> Height
@@ -140,39 +142,29 @@ pub fn spread(b: &Board, n: usize) -> Height
 {
     let mut widest = Height::ZERO;
     for y in 0..n {
-        widest = larger(widest, width(b, y));
+        widest = widest.max(width(b, y));
     }
     widest
 }
 
 // ---- rules 1 and 2
 
-// Do both ends of y's time window keep a bound from above, from below?
-fn is_under(b: &Board, y: usize, upper: Time) -> bool
+// Do both ends of y's time window keep the bound v at an end?
+fn keeps(b: &Board, y: usize, k: End, v: Word) -> bool
     requires { y < 64 }
-    ensures { result ≡ (le_z (board b.now.words y t_min) upper.0 && le_z (board b.now.words y t_max) upper.0) }
+    ensures { result ≡ (meets (end_of k) v.0 (board b.now.words y t_min) && meets (end_of k) v.0 (board b.now.words y t_max)) }
 {
-    let starts = b.t_min(y) <= upper;
-    let ends = b.t_max(y) <= upper;
-    starts & ends
+    let early = k.meets(v, b.end(End::TMin, y));
+    let late = k.meets(v, b.end(End::TMax, y));
+    early & late
 }
 
-fn is_over(b: &Board, y: usize, lower: Time) -> bool
-    requires { y < 64 }
-    ensures { result ≡ (le_z lower.0 (board b.now.words y t_max) && le_z lower.0 (board b.now.words y t_min)) }
+// Do rules 1 and 2 of a lag leave both windows as they are?
+pub fn is_kept(b: &Board, lag: Lag) -> bool
+    requires { Timed lag (board b.now.words) }
+    ensures { result ≡ lag_kept lag (board b.now.words) }
 {
-    let late = lower <= b.t_max(y);
-    let early = lower <= b.t_min(y);
-    late & early
-}
-
-// Do rules 1 and 2 of lag g leave both windows as they are?
-pub fn is_kept(b: &Board, lags: &[i32], g: usize) -> bool
-    requires { Lagged lags.now (board b.now.words) g }
-    ensures { result ≡ lag_kept lags.now (board b.now.words) g }
-{
-    let lag = Lag::of_table(lags, g);
-    let under = is_under(b, lag.a, lag_upper(b, lags, g));
-    let over = is_over(b, lag.b, lag_lower(b, lags, g));
+    let under = keeps(b, lag.a, End::TMax, lag.upper(b).into());
+    let over = keeps(b, lag.b, End::TMin, lag.lower(b).into());
     under & over
 }

@@ -8,4 +8,4 @@ use Rattle.silence.specs.Slack.{may_move, count}
 use Rattle.silence.proofs.slack.tally_moves.Given as goal
 
 abbrev pub invariant-loop-y : goal.invariant-loop-y
-invariant-loop-y l = (l.total ≡ count l.y (may_move (strict_at l.m l.strict l.later (board l.b.words)) (side l.m (board l.b.words)) (board l.b.words) l.u.0 l.v.0 l.k.0)) × (l.total ≤ l.y)
+invariant-loop-y l = (l.total ≡ count l.y (may_move (strict_at l.s (board l.b.words)) (side l.s.mirror (board l.b.words)) (board l.b.words) l.u.0 l.v.0 l.k.0)) × (l.total ≤ l.y)
