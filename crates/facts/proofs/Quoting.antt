@@ -26,9 +26,10 @@ use Rattle.tables.specs.declared.measures.Time.{Time}
 use Rattle.levels.specs.Values.{strict_at, as_view, seen_by, Views}
 use Rattle.levels.specs.declared.View.{View as Sight}
 use Rattle.levels.proofs.Viewing.{here_view, before_here, seen_here, view_here}
-use Rattle.rules.specs.Values.{effect_of}
+use Rattle.rules.specs.Values.{effect_of, IsLag}
+use Rattle.rules.specs.declared.lags.Lag.{Lag as Pair}
 use Rattle.rules.specs.declared.Effect.{Effect as Done}
-use Rattle.facts.specs.Quotes.{Any, lag_cited, lag_said, height_cited, level_cited, level_said, total_cited, set_cited, LagCites, LevelCites, Cites, Shows, TotalCites}
+use Rattle.facts.specs.Quotes.{Any, is_there, lag_cited, lag_said, height_cited, level_cited, level_said, total_cited, set_cited, LagCites, LevelCites, Cites, Shows, TotalCites}
 use Rattle.facts.specs.declared.LagCiting.{LagCiting}
 use Rattle.facts.specs.declared.LevelCiting.{LevelCiting}
 use Rattle.facts.specs.declared.TotalCiting.{TotalCiting}
@@ -92,11 +93,11 @@ and_false : (b : Bool) → (b && false) ≡ false
 and_false true = refl
 and_false false = refl
 
-before_made : (m s l : Bool) (W : Windows) (z : ℕ) → produces (side m W z h_max) ≡ true → strict_at m s l W z ≡ (s || (not m && l))
+before_made : (m s l : Bool) (W : Windows) (z : ℕ) → produces (side m W z h_max) ≡ true → strict_at (record { mirror = m; strict = s; later = l }) W z ≡ (s || (not m && l))
 before_made true s l W z e = refl
 before_made false s l W z e = rw (e, and_true l)
 
-before_taken : (m s l : Bool) (W : Windows) (z : ℕ) → produces (side m W z h_max) ≡ false → strict_at m s l W z ≡ s
+before_taken : (m s l : Bool) (W : Windows) (z : ℕ) → produces (side m W z h_max) ≡ false → strict_at (record { mirror = m; strict = s; later = l }) W z ≡ s
 before_taken true s l W z e = or_false s
 before_taken false s l W z e = rw (e, and_false l) (or_false s)
 
@@ -110,8 +111,8 @@ module _
     (u v after until : Time) (starts top ends spared : Bool)
     (from : u.0 ≡ e_min (as_view view W) (seen_by view W))
     (to : v.0 ≡ latest f (e_max (as_view view W) (seen_by view W)) x)
-    (next : after.0 ≡ first_late (view.strict || (not view.mirror && view.later)) v.0)
-    (last : until.0 ≡ last_early view.strict u.0)
+    (next : after.0 ≡ first_late (view.stance.strict || (not view.stance.mirror && view.stance.later)) v.0)
+    (last : until.0 ≡ last_early view.stance.strict u.0)
     (others : Any view.events (as_view view W) (seen_by view W) u.0 v.0 (record { early = starts; late = ends }))
     (tops : top ≡ quotes_top f)
     (spare : spared ≡ spares f x)
@@ -147,28 +148,28 @@ module _
     says_lower z t =
         rw (← from, ← to)
         (own_said (own z) starts (left_out (stands_at z) (amount z)) u.0 t
-        (λ o. next ∙ ap (λ b. first_late b v.0) (sym (before_made view.mirror view.strict view.later W z (out_makes (stands_at z) (amount z) o)))))
+        (λ o. next ∙ ap (λ b. first_late b v.0) (sym (before_made view.stance.mirror view.stance.strict view.stance.later W z (out_makes (stands_at z) (amount z) o)))))
 
     says_upper : (z : ℕ) → T (level_cited held W z t_max) → level_said held W z t_max ≡ says_here z t_max
     says_upper z t =
         rw (← from, ← to)
         (own_said (own z) (top && ends) (surely_consumed (stands_at z) (amount z)) v.0 t
-        (λ o. last ∙ ap (λ b. last_early b u.0) (sym (before_taken view.mirror view.strict view.later W z (consumed_takes (stands_at z) (amount z) o)))))
+        (λ o. last ∙ ap (λ b. last_early b u.0) (sym (before_taken view.stance.mirror view.stance.strict view.stance.later W z (consumed_takes (stands_at z) (amount z) o)))))
 
     pub level_cites : LevelCites f view W y x held
     level_cites = record { cites = all_cites; says = all_says }
       where
-        all_cites : (z : ℕ) (k : End) → level_cited held W z k ≡ cites_here z (side_end view.mirror k)
-        all_cites z t_min = cites_lower z ∙ (time_end view.mirror (cites_here z)).0
-        all_cites z t_max = cites_upper z ∙ (time_end view.mirror (cites_here z)).1
-        all_cites z h_min = (height_end view.mirror (cites_here z) (cites_high z) refl).0
-        all_cites z h_max = (height_end view.mirror (cites_here z) (cites_high z) refl).1
+        all_cites : (z : ℕ) (k : End) → level_cited held W z k ≡ cites_here z (side_end view.stance.mirror k)
+        all_cites z t_min = cites_lower z ∙ (time_end view.stance.mirror (cites_here z)).0
+        all_cites z t_max = cites_upper z ∙ (time_end view.stance.mirror (cites_here z)).1
+        all_cites z h_min = (height_end view.stance.mirror (cites_here z) (cites_high z) refl).0
+        all_cites z h_max = (height_end view.stance.mirror (cites_here z) (cites_high z) refl).1
 
-        all_says : (z : ℕ) (k : End) → T (level_cited held W z k) → level_said held W z k ≡ side_value view.mirror k (says_here z (side_end view.mirror k))
-        all_says z t_min t = says_lower z t ∙ (time_back view.mirror (says_here z)).0
-        all_says z t_max t = says_upper z t ∙ (time_back view.mirror (says_here z)).1
-        all_says z h_min t = (height_back view.mirror W z (says_here z) refl refl).0
-        all_says z h_max t = (height_back view.mirror W z (says_here z) refl refl).1
+        all_says : (z : ℕ) (k : End) → T (level_cited held W z k) → level_said held W z k ≡ side_value view.stance.mirror k (says_here z (side_end view.stance.mirror k))
+        all_says z t_min t = says_lower z t ∙ (time_back view.stance.mirror (says_here z)).0
+        all_says z t_max t = says_upper z t ∙ (time_back view.stance.mirror (says_here z)).1
+        all_says z h_min t = (height_back view.stance.mirror W z (says_here z) refl refl).0
+        all_says z h_max t = (height_back view.stance.mirror W z (says_here z) refl refl).1
 
 -- ---- in a call
 
@@ -193,29 +194,37 @@ own_event : (s : Bool) (z a : ℕ) → T (s && eqb z a) → z ≡ a
 own_event true z a t = eqb-true z a (is_true (eqb z a) t)
 own_event false z a t = absurd t
 
-lag_says : {starts ends : Bool} {ws : List ℤ} {g : ℕ} {W : Windows} {c : LagCiting} → LagCites starts ends ws g W c → (z : ℕ) (l : End) → T (lag_cited c z l) → lag_said c z l ≡ W z l
-lag_says {c = c} l z t_min t = let i = own_event c.starts z c.a t in l.from_is ∙ rw i
-lag_says {c = c} l z t_max t = let i = own_event c.ends z c.b t in l.to_is ∙ rw i
+own_test : (s : Bool) (z a : ℕ) → T (s && eqb z a) → T s
+own_test true z a t = tt
+own_test false z a t = absurd t
+
+lag_says : {starts ends : Bool} {l : Pair} {W : Windows} {c : LagCiting} → LagCites starts ends l W c → (z : ℕ) (k : End) → T (lag_cited c z k) → lag_said c z k ≡ W z k
+lag_says {c = c} l z t_min t =
+    let s = is_there c.from in
+    l.from_is.1 (subst T l.from_is.0 (own_test s z c.a t)) ∙ rw (← l.a_is, own_event s z c.a t)
+lag_says {c = c} l z t_max t =
+    let s = is_there c.to in
+    l.to_is.1 (subst T l.to_is.0 (own_test s z c.b t)) ∙ rw (← l.b_is, own_event s z c.b t)
 lag_says l z h_min t = absurd t
 lag_says l z h_max t = absurd t
 
-lag_quotes : {starts ends : Bool} {ws : List ℤ} {g : ℕ} {W : Windows} {c : LagCiting} → LagCites starts ends ws g W c → (j : Call) → j.lag_table ≡ ws → (z : ℕ) (l : End) → lag_cited c z l ≡ lag_cites starts ends j g z l
-lag_quotes l j h z t_min = rw (h, l.a_is, l.starts_is)
-lag_quotes l j h z t_max = rw (h, l.b_is, l.ends_is)
-lag_quotes l j h z h_min = refl
-lag_quotes l j h z h_max = refl
+lag_quotes : {starts ends : Bool} {ws : List ℤ} {g : ℕ} {l : Pair} {W : Windows} {c : LagCiting} → IsLag ws g l → LagCites starts ends l W c → (j : Call) → j.lag_table ≡ ws → (z : ℕ) (k : End) → lag_cited c z k ≡ lag_cites starts ends j g z k
+lag_quotes i l j h z t_min = rw (h, l.a_is, i.a_is, l.from_is.0)
+lag_quotes i l j h z t_max = rw (h, l.b_is, i.b_is, l.to_is.0)
+lag_quotes i l j h z h_min = refl
+lag_quotes i l j h z h_max = refl
 
-lag_known : {k : Job} {starts ends : Bool} {ws : List ℤ} {g : ℕ} {W : Windows} {c : LagCiting} → Fit k ws → g < length ws / 3 → LagCites starts ends ws g W c → (c.a < k.events) × (c.b < k.events)
-lag_known {g = g} f t l = let s = f.lag g t in (rw l.a_is s.real_a, rw l.b_is s.real_b)
+lag_known : {k : Job} {starts ends : Bool} {ws : List ℤ} {g : ℕ} {l : Pair} {W : Windows} {c : LagCiting} → Fit k ws → g < length ws / 3 → IsLag ws g l → LagCites starts ends l W c → (c.a < k.events) × (c.b < k.events)
+lag_known {g = g} f t i l = let s = f.lag g t in (rw (l.a_is, i.a_is) s.real_a, rw (l.b_is, i.b_is) s.real_b)
 
 module _ {k : Job} {ws : List ℤ} (W : Windows) (e y : ℕ) (x : Done) where
-  pub cites_by_upper : {c : LagCiting} → Fit k ws → e < length ws / 3 → LagCites (failed (effect_of x)) true ws e W c → Cites k ws W lag_upper e y x (Lag c)
+  pub cites_by_upper : {c : LagCiting} {l : Pair} → Fit k ws → e < length ws / 3 → IsLag ws e l → LagCites (failed (effect_of x)) true l W c → Cites k ws W lag_upper e y x (Lag c)
   unfolding quotes quoted
-  cites_by_upper f t l = record { known = lag_known f t l; cites = λ j h z m i. lag_quotes l j h.holds.lags_are z i; says = λ j h z m i t. lag_says l z i t }
+  cites_by_upper f t i l = record { known = lag_known f t i l; cites = λ j h z m k. lag_quotes i l j h.holds.lags_are z k; says = λ j h z m k t. lag_says l z k t }
 
-  pub cites_by_lower : {c : LagCiting} → Fit k ws → e < length ws / 3 → LagCites true (failed (effect_of x)) ws e W c → Cites k ws W lag_lower e y x (Lag c)
+  pub cites_by_lower : {c : LagCiting} {l : Pair} → Fit k ws → e < length ws / 3 → IsLag ws e l → LagCites true (failed (effect_of x)) l W c → Cites k ws W lag_lower e y x (Lag c)
   unfolding quotes quoted
-  cites_by_lower f t l = record { known = lag_known f t l; cites = λ j h z m i. lag_quotes l j h.holds.lags_are z i; says = λ j h z m i t. lag_says l z i t }
+  cites_by_lower f t i l = record { known = lag_known f t i l; cites = λ j h z m k. lag_quotes i l j h.holds.lags_are z k; says = λ j h z m k t. lag_says l z k t }
 
   pub cites_by_side : (m b : Bool) (f : Family) {v : Sight} {c : LevelCiting} → e < k.events → Views k.events (reservoir_of k.reservoir) m b e v → LevelCites f v W y (effect_of x) c → Cites k ws W (reservoir m b f) e y x (Level c)
   unfolding quotes quoted

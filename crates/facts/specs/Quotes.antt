@@ -1,14 +1,16 @@
 -- The facts of a slip as the code holds them: which are quoted and what is said of them, by the values made once for the slip.
-use Rattle.std.specs.Prelude.{◌≡◌, Bool, true, false, not, cond, ◌&&◌, ◌||◌, List, ℕ, ◌<◌, T, eqb, ℤ, pos, nat_abs}
-use Rattle.model.specs.Job.{End, t_min, t_max, h_min, h_max, Windows, lag_word, Job as Call, any, produces, consumes, in_set}
+use Rattle.std.specs.Prelude.{◌≡◌, Bool, true, false, not, cond, ◌&&◌, ◌||◌, List, ℕ, ◌<◌, T, eqb, ℤ, pos, Option, None, Some}
+use Rattle.model.specs.Job.{End, t_min, t_max, h_min, h_max, Windows, Job as Call, any, produces, consumes, in_set}
 use Rattle.model.specs.View.{side, side_end, side_value, View}
 use Rattle.model.specs.Levels.{place}
 use Rattle.model.specs.Rules.{Family, Rule, total, targeted, Effect}
 use Rattle.model.specs.Facts.{late, early, family_cites, family_says, quotes, quoted}
 use Rattle.tables.specs.Job.{Serves}
 use Rattle.tables.specs.declared.Job.{Job}
+use Rattle.tables.specs.declared.ends.Word.{Word}
 use Rattle.levels.specs.Values.{as_view, seen_by}
 use Rattle.levels.specs.declared.View.{View as Sight}
+use Rattle.rules.specs.declared.lags.Lag.{Lag as Pair}
 use Rattle.rules.specs.Values.{effect_of}
 use Rattle.rules.specs.declared.Effect.{Effect as Done}
 use Rattle.facts.specs.declared.LagCiting.{LagCiting}
@@ -33,16 +35,25 @@ pub record Any (n : ℕ) (E : View) (W : Windows) (u v : ℤ) (o : Others) : Typ
 
 -- ---- of a slip
 
+-- Is a word there, and which?
+abbrev pub is_there : Option Word → Bool
+is_there None = false
+is_there (Some w) = true
+
+abbrev pub value_of : Option Word → ℤ
+value_of None = pos 0
+value_of (Some w) = w.0
+
 -- A lag's: does it quote the end k of event z, and what does it say of it?
 abbrev pub lag_cited : LagCiting → ℕ → End → Bool
-lag_cited c z t_min = c.starts && eqb z c.a
-lag_cited c z t_max = c.ends && eqb z c.b
+lag_cited c z t_min = is_there c.from && eqb z c.a
+lag_cited c z t_max = is_there c.to && eqb z c.b
 lag_cited c z h_min = false
 lag_cited c z h_max = false
 
 abbrev pub lag_said : LagCiting → ℕ → End → ℤ
-lag_said c z t_min = c.from.0
-lag_said c z t_max = c.to.0
+lag_said c z t_min = value_of c.from
+lag_said c z t_max = value_of c.to
 lag_said c z h_min = pos 0
 lag_said c z h_max = pos 0
 
@@ -58,8 +69,8 @@ module _ (c : LevelCiting) (W : Windows) (z : ℕ) where
       cond (eqb z c.view.subject) c.starts (late (as_view c.view W) (seen_by c.view W) c.from.0 c.to.0 z)
   level_cited t_max =
       cond (eqb z c.view.subject) c.ends (early (as_view c.view W) (seen_by c.view W) c.from.0 c.to.0 z)
-  level_cited h_min = c.view.mirror && height_cited
-  level_cited h_max = not c.view.mirror && height_cited
+  level_cited h_min = c.view.stance.mirror && height_cited
+  level_cited h_max = not c.view.stance.mirror && height_cited
 
   abbrev pub level_said : End → ℤ
   level_said t_min = cond (eqb z c.view.subject) c.from.0 c.after.0
@@ -97,19 +108,21 @@ Known n (Total c) = Unit {0}
 
 -- ---- of a rule
 
--- c decides the facts of a slip of lag g.
-pub record LagCites (starts ends : Bool) (ws : List ℤ) (g : ℕ) (W : Windows) (c : LagCiting) : Type 0 where
-  pub a_is : c.a ≡ nat_abs (lag_word ws g 0)
-  pub b_is : c.b ≡ nat_abs (lag_word ws g 1)
-  pub from_is : c.from.0 ≡ W c.a t_min
-  pub to_is : c.to.0 ≡ W c.b t_max
-  pub starts_is : c.starts ≡ starts
-  pub ends_is : c.ends ≡ ends
+-- A word is there by a test, and then it is v.
+abbrev pub Told : Bool → ℤ → Option Word → Type 0
+Told t v w = (is_there w ≡ t) × (T t → value_of w ≡ v)
+
+-- c decides the facts of a slip of a lag.
+pub record LagCites (starts ends : Bool) (l : Pair) (W : Windows) (c : LagCiting) : Type 0 where
+  pub a_is : c.a ≡ l.a
+  pub b_is : c.b ≡ l.b
+  pub from_is : Told starts (W l.a t_min) c.from
+  pub to_is : Told ends (W l.b t_max) c.to
 
 -- c decides the facts of a slip of a family of reservoir rules in a view.
 pub record LevelCites (f : Family) (v : Sight) (W : Windows) (y : ℕ) (x : Effect) (c : LevelCiting) : Type 0 where
-  pub cites : (z : ℕ) (k : End) → level_cited c W z k ≡ family_cites f (as_view v W) (seen_by v W) y x z (side_end v.mirror k)
-  pub says : (z : ℕ) (k : End) → T (level_cited c W z k) → level_said c W z k ≡ side_value v.mirror k (family_says f (as_view v W) (seen_by v W) x z (side_end v.mirror k))
+  pub cites : (z : ℕ) (k : End) → level_cited c W z k ≡ family_cites f (as_view v W) (seen_by v W) y x z (side_end v.stance.mirror k)
+  pub says : (z : ℕ) (k : End) → T (level_cited c W z k) → level_said c W z k ≡ side_value v.stance.mirror k (family_says f (as_view v W) (seen_by v W) x z (side_end v.stance.mirror k))
 
 -- c decides the facts of the slip of rule r with subject e, target y and effect x.
 pub record Cites (k : Job) (ws : List ℤ) (W : Windows) (r : Rule) (e y : ℕ) (x : Done) (c : Citing) : Type 0 where

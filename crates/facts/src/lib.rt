@@ -4,17 +4,15 @@
 pub mod premises; // premises.rt: the facts of one slip, decided once
 
 use levels::View;
-use tables::Time;
+use tables::{Time, Word};
 
-// What decides the facts of a lag's slip: is t ≥ of its event a quoted, with t_min(a) for its value; is t ≤ of b, with t_max(b)?
+// The facts of a lag's slip: t ≥ of its event a, if it is quoted, and t ≤ of b.
 #[derive(Clone, Copy)]
 pub struct LagCiting {
     pub a: usize,
     pub b: usize,
-    pub from: Time,
-    pub to: Time,
-    pub starts: bool,
-    pub ends: bool,
+    pub from: Option<Word>,
+    pub to: Option<Word>,
 }
 
 // What decides the facts of a reservoir rule's slip, in its view: e's time window is from..to; deliveries left out come no earlier than `after`, sure pulls no later than `until`.

@@ -7,16 +7,17 @@ ghost use Rattle.model.specs.Rules.{narrows};
 ghost use Rattle.model.specs.Facts.{first_late, last_early, left_out, surely_consumed, latest, quotes_top, spares};
 ghost use Rattle.tables.specs.Board.{board};
 ghost use Rattle.levels.specs.Values.{place_of, as_view, seen_by};
-ghost use Rattle.rules.specs.Values.{family_of, rule_of, effect_of, Lagged, Tries, Does};
+ghost use Rattle.rules.specs.Values.{family_of, rule_of, effect_of};
+ghost use Rattle.rules.specs.Attempts.{on, Acts};
 ghost use Rattle.facts.specs.Quotes.{total_cited, Other, Any, LevelCites, LagCites, Cites, TotalCites, Quotes};
 
 use crate::{Citing, LagCiting, LevelCiting, Others, Quoted, TotalCiting};
 use levels::places::side_h_max;
-use levels::{Place, View};
+use levels::{Place, Sight, Stance, View};
 use rules::bounds::targeted;
 use rules::lags::Lag;
-use rules::{Effect, Family, Rule};
-use tables::{Board, Height, Job, Time};
+use rules::{Attempt, Effect, Family, Rule};
+use tables::{Board, End, Height, Time};
 
 // ---- the tests for one event
 
@@ -72,13 +73,13 @@ pub fn others(b: &Board, view: View, u: Time, v: Time) -> Others
 // ---- e's time window and the times said of others
 
 // Is "before" meant of a delivery that is not counted?
-fn late_before(view: View) -> bool
-    ensures { result ≡ (view.strict || (not view.mirror && view.later)) }
+fn late_before(s: Stance) -> bool
+    ensures { result ≡ (s.strict || (not s.mirror && s.later)) }
 {
-    view.strict | !view.mirror & view.later
+    s.strict | !s.mirror & s.later
 }
 
-// Such a delivery comes no earlier than this.
+// Such a delivery comes no earlier than this: the 1 is where `rules::bounds::counts_from` has none, and a `!` there is no plainer.
 fn first_late(strict: bool, v: Time) -> Time
     requires { Within v.0 20001 }
     ensures { result.0 ≡ first_late strict v.0 }
@@ -102,7 +103,7 @@ fn latest(f: Family, t: Time, x: Effect) -> Time
     ensures { result.0 ≡ latest (family_of f) t.0 (effect_of x) }
 {
     match (f, x) {
-        (Family::Time, Effect::Narrows(v)) => Time(v.0) - Time::MINUTE,
+        (Family::Time, Effect::Narrows(v)) => Time::from(v) - Time::MINUTE,
         _ => t,
     }
 }
@@ -124,22 +125,21 @@ fn spares(f: Family, x: Effect) -> bool
 // ---- one slip's facts
 
 // Of a family of reservoir rules with target y and effect x, in a view.
-fn level_citing(b: &Board, view: View, f: Family, y: usize, x: Effect) -> LevelCiting
-    requires { Ranged view.events (board b.now.words)
-        × (view.subject < view.events)
-        × ((v : ℤ) → effect_of x ≡ narrows v → Within v 20000) }
-    ensures { LevelCites (family_of f) view (board b.now.words) y (effect_of x) result }
+fn level_citing(s: Sight, f: Family, y: usize, x: Effect) -> LevelCiting
+    requires { (v : ℤ) → effect_of x ≡ narrows v → Within v 20000 }
+    ensures { LevelCites (family_of f) s.entry.view (board s.entry.board.now.words) y (effect_of x) result }
 {
-    let from = view.e_min(b);
-    let to = latest(f, view.e_max(b), x);
-    let o = others(b, view, from, to);
+    let view = s.view;
+    let from = s.e_min();
+    let to = latest(f, s.e_max(), x);
+    let o = others(s.board, view, from, to);
     let top = quotes_top(f);
     LevelCiting {
         view,
         from,
         to,
-        after: first_late(late_before(view), to),
-        until: last_early(view.strict, from),
+        after: first_late(late_before(view.stance), to),
+        until: last_early(view.stance.strict, from),
         starts: o.early,
         ends: top & o.late,
         spares: spares(f, x),
@@ -147,33 +147,42 @@ fn level_citing(b: &Board, view: View, f: Family, y: usize, x: Effect) -> LevelC
     }
 }
 
-// Of lag g: are t ≥ of a and t ≤ of b quoted?
-fn lag_citing(b: &Board, lags: &[i32], g: usize, starts: bool, ends: bool) -> LagCiting
-    requires { Lagged lags.now (board b.now.words) g }
-    ensures { LagCites starts ends lags.now g (board b.now.words) result }
+// Of a lag: are t ≥ of a and t ≤ of b quoted?
+fn lag_citing(b: &Board, lag: Lag, starts: bool, ends: bool) -> LagCiting
+    requires { (lag.a < 64) × (lag.b < 64) }
+    ensures { LagCites starts ends lag (board b.now.words) result }
 {
-    let lag = Lag::of_table(lags, g);
     LagCiting {
         a: lag.a,
         b: lag.b,
-        from: b.t_min(lag.a),
-        to: b.t_max(lag.b),
-        starts,
-        ends,
+        from: starts.then_some(b.end(End::TMin, lag.a)),
+        to: ends.then_some(b.end(End::TMax, lag.b)),
     }
 }
 
-// What decides the facts of the slip of rule r of 1..14 with subject e, target y and effect x.
-pub fn citing(b: &Board, lags: &[i32], k: Job, r: Rule, e: usize, y: usize, x: Effect) -> Citing
-    requires { Tries k lags.now (board b.now.words) (rule_of r) e y × Does k lags.now (board b.now.words) (rule_of r) e y x }
-    ensures { Cites k lags.now (board b.now.words) (rule_of r) e y x result }
+// What decides the facts of the slip of an attempt with effect x.
+pub fn citing(a: Attempt, x: Effect) -> Citing
+    requires { Acts a x }
+    ensures { Cites a.entry.job a.entry.lags.now (on a.entry) (rule_of a.entry.rule) a.entry.subject a.entry.target x result }
 {
-    match r {
-        Rule::LagUpper => Citing::Lag(lag_citing(b, lags, e, x.has_failed(), true)),
-        Rule::LagLower => Citing::Lag(lag_citing(b, lags, e, true, x.has_failed())),
-        Rule::Reservoir(v) => Citing::Level(level_citing(b, v.view(k, e), v.family, y, x)),
+    match a.rule {
+        Rule::LagUpper => {
+            let lag = Lag::of_table(a.lags, a.subject);
+            Citing::Lag(lag_citing(a.board, lag, x.has_failed(), true))
+        }
+        Rule::LagLower => {
+            let lag = Lag::of_table(a.lags, a.subject);
+            Citing::Lag(lag_citing(a.board, lag, true, x.has_failed()))
+        }
+        Rule::Reservoir(v) => {
+            let sight = Sight {
+                board: a.board,
+                view: v.view(a.job, a.subject),
+            };
+            Citing::Level(level_citing(sight, v.family, a.target, x))
+        }
         // No such rule is tried here.
-        Rule::Total { mirror } => total_citing(mirror, y, x),
+        Rule::Total { mirror } => total_citing(mirror, a.target, x),
     }
 }
 

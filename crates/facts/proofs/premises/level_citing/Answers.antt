@@ -12,9 +12,10 @@ use Rattle.facts.proofs.premises.level_citing.Goals as goal
 pub first_late-requires : goal.first_late-requires
 first_late-requires c =
     let a = c.args in
+    let p = a.s.sighted in
     wider c.latest-to.ensures
     (latest_within (family_of a.f) c.e_max.result.0 (effect_of a.x)
-    (wider c.e_max.ensures ((side_ranged a.view.mirror c.requires.0).range a.view.subject c.requires.1 t_max) (omega arith)) c.requires.2)
+    (wider c.e_max.ensures ((side_ranged a.s.view.stance.mirror p.ranged).range a.s.view.subject p.subject t_max) (omega arith)) c.requires)
     (omega arith)
 
 pub returns : goal.returns
@@ -28,6 +29,6 @@ returns c =
     let late = c.late_before in
     let next = c.first_late in
     let last = c.last_early in
-    level_cites a.view f (board a.b.now.words) a.y x c.e_min-from.result to.result next.result last.result o.result.early top.result o.result.late
+    level_cites a.s.view f (board a.s.board.now.words) a.y x c.e_min-from.result to.result next.result last.result o.result.early top.result o.result.late
     c.spares.result c.e_min-from.ensures (to.ensures ∙ ap (λ t. latest f t x) c.e_max.ensures)
     (next.ensures ∙ ap (λ b. first_late b to.result.0) late.ensures) last.ensures o.ensures top.ensures c.spares.ensures
