@@ -20,33 +20,43 @@ fn seen(own: bool, w: Windows) -> Windows
     }
 }
 
-// Is y in the cage of e?
-pub fn together(table: &[i32], n: usize, e: usize, y: usize) -> bool
-    requires { Homed n table.now × (e < n) × (y < n) }
-    ensures { result ≡ together table.now e y }
-{
-    cage_of(table, y) == cage_of(table, e)
+// An event whose cage is looked at: the window table, how many events it has, and which of them this one is.
+#[derive(Clone, Copy)]
+pub struct Home<'a> {
+    pub table: &'a [i32],
+    pub events: usize,
+    pub subject: usize,
+    ghost homed: { Homed events table.now },
+    ghost there: { subject < events },
 }
 
-// The board as e sees it: the events of other cages are neutral.
-pub fn mask(b: &Board, table: &[i32], n: usize, e: usize, s: &mut Board)
-    requires { Homed n table.now × (e < n) }
-    ensures { Masked n table.now e b.now.words s.new.words }
-{
-    for y in 0..n {
-        let own = together(table, n, e, y);
-        s.set_windows(y, seen(own, b.windows(y)));
+impl Home<'_> {
+    // Is y in its cage?
+    pub fn holds(&self, y: usize) -> bool
+        requires { y < self.now.events }
+        ensures { result ≡ together self.now.table.now self.now.subject y }
+    {
+        cage_of(self.table, y) == cage_of(self.table, self.subject)
     }
-}
 
-// What moved in e's cage, put back onto the board of the job.
-pub fn join(s: &Board, table: &[i32], n: usize, e: usize, b: &mut Board)
-    requires { Homed n table.now × (e < n) }
-    ensures { Joined n table.now e b.old.words s.now.words b.new.words }
-{
-    for y in 0..n {
-        if together(table, n, e, y) {
-            b.set_windows(y, s.windows(y));
+    // The board as the event sees it: the events of other cages are neutral.
+    pub fn mask(&self, b: &Board, s: &mut Board)
+        ensures { Masked self.now.events self.now.table.now self.now.subject b.now.words s.new.words }
+    {
+        for y in 0..self.events {
+            let own = self.holds(y);
+            s.set_windows(y, seen(own, b.windows(y)));
+        }
+    }
+
+    // What moved in its cage, put back onto the board of the job.
+    pub fn join(&self, s: &Board, b: &mut Board)
+        ensures { Joined self.now.events self.now.table.now self.now.subject b.old.words s.now.words b.new.words }
+    {
+        for y in 0..self.events {
+            if self.holds(y) {
+                b.set_windows(y, s.windows(y));
+            }
         }
     }
 }

@@ -1,7 +1,7 @@
 -- The code's job as the definitions': the reservoir, the job of one cage with its lent lag words, the windows at hand, and the ranges.
 use Rattle.std.specs.Prelude.{◌≡◌, List, [], ◌∷◌, ℕ, ◌/◌, ◌≤◌, ◌<◌, ℤ, pos, length, ◌≤ℤ◌}
 use Rattle.model.specs.Job as model
-use Rattle.model.specs.Job.{h_max, Windows, produces, events, sent, cages, cage, cage_word}
+use Rattle.model.specs.Job.{h_max, Windows, produces, events, sent, cages, cage, cage_at, cage_word}
 use Rattle.model.specs.Standing.{SaneCage, SaneLag}
 use Rattle.tables.specs.Board.{table_of}
 use Rattle.tables.specs.declared.Reservoir.{Reservoir}
@@ -11,6 +11,12 @@ use Rattle.tables.specs.declared.Job.{Job}
 abbrev pub reservoir_of : Reservoir → model.Reservoir
 reservoir_of c =
     record { min_level = c.low.0; max_level = c.high.0; initial = c.initial.0; cover = c.cover.0 }
+
+-- The code's job is that of cage c of a cage table, with this horizon and so many events.
+pub record OfCage (h : ℤ) (cages : List ℤ) (c n : ℕ) (k : Job) : Type 0 where
+  pub horizon_is : k.horizon.0 ≡ h
+  pub reservoir_is : reservoir_of k.reservoir ≡ cage_at cages c
+  pub events_are : k.events ≡ n
 
 -- Its words in a cage table.
 abbrev pub cage_words : Reservoir → List ℤ

@@ -1,8 +1,8 @@
 // The board: the windows of up to 64 events, each end's words side by side, so that a loop over events goes along a row.
-ghost use Rattle.std.specs.Prelude.{◌≡◌, ◌+◌, ◌*◌, ◌<◌, ◌≤◌, pos, length, replicate, set};
+ghost use Rattle.std.specs.Prelude.{◌≡◌, ◌+◌, ◌*◌, ◌/◌, ◌<◌, ◌≤◌, pos, length, replicate, set};
 ghost use Rattle.std.proofs.lemmas.List.Edits.{sets};
 ghost use Rattle.model.specs.Job.{t_min, t_max, h_min, h_max, word, windows};
-ghost use Rattle.tables.specs.Board.{board, words_of, table_of, Loaded};
+ghost use Rattle.tables.specs.Board.{board, words_of, table_of, WindowTable, Loaded};
 ghost use Rattle.tables.specs.Ends.{end_of};
 ghost use Rattle.tables.specs.Windows.{windows_set, Event};
 
@@ -18,7 +18,7 @@ pub struct Board {
 }
 
 impl Board {
-    // No event has a number yet.
+    // Each word is 0: no event has windows yet.
     pub fn blank() -> Board
         ensures { result.words ≡ replicate 256 (pos 0) }
     {
@@ -94,12 +94,12 @@ impl Board {
         self.words[192 + y] = w.h_max.0;
     }
 
-    // The board gets the windows of a window table of n events.
-    pub fn load(&mut self, table: &[i32], n: usize)
-        requires { (n ≤ 64) × (length table.now ≡ 5 * n) }
-        ensures { Loaded n table.now self.new.words }
+    // The board gets the windows of a window table.
+    pub fn load(&mut self, table: &[i32])
+        requires { WindowTable table.now }
+        ensures { Loaded (length table.now / 5) table.now self.new.words }
     {
-        for y in 0..n {
+        for y in 0..table.len() / 5 {
             self.set_windows(y, Windows::of_event(table, y));
         }
     }
@@ -110,18 +110,16 @@ impl Board {
         ensures { table.new ≡ sets table.old (5 * y) (words_of self.now.words y) }
     {
         let w = self.windows(y);
-        table[5 * y] = w.t_min.0;
-        table[5 * y + 1] = w.t_max.0;
-        table[5 * y + 2] = w.h_min.0;
-        table[5 * y + 3] = w.h_max.0;
+        let at = 5 * y;
+        table[at..at + 4].copy_from_slice(&[w.t_min.0, w.t_max.0, w.h_min.0, w.h_max.0]);
     }
 
-    // The windows of n events back into the window table.
-    pub fn unload(&self, n: usize, table: &mut [i32])
-        requires { (n ≤ 64) × (length table.old ≡ 5 * n) }
-        ensures { table.new ≡ table_of n table.old self.now.words }
+    // The windows of all events back into the window table.
+    pub fn unload(&self, table: &mut [i32])
+        requires { WindowTable table.old }
+        ensures { table.new ≡ table_of (length table.old / 5) table.old self.now.words }
     {
-        for y in 0..n {
+        for y in 0..table.len() / 5 {
             self.unload_event(y, table);
         }
     }

@@ -26,6 +26,14 @@ impl From<Height> for Word {
     }
 }
 
+impl From<Word> for Time {
+    ghost from_gives = { λ w t. t.0 ≡ w.0 };
+
+    fn from(w: Word) -> Time {
+        Time(w.0)
+    }
+}
+
 // An end, with the kind by which a slip names it: t ≥, t ≤, h ≥, h ≤.
 #[derive(Clone, Copy, PartialEq, Eq)]
 pub enum End {

@@ -16,7 +16,7 @@ use Rattle.model.specs.Agenda.{Attempt, each_of, event_attempts, agenda}
 use Rattle.model.specs.Rounds.{State, made}
 use Rattle.model.proofs.Alone.{masked, apart, events_apart, home_word, sent_apart, Masks, Twin, with_table, event_twin, lags_twin, same_table}
 use Rattle.tables.specs.Board.{board, table_of}
-use Rattle.tables.specs.Job.{reservoir_of, Holds, Kinds, Serves, Fit}
+use Rattle.tables.specs.Job.{reservoir_of, OfCage, Holds, Kinds, Serves, Fit}
 use Rattle.tables.specs.declared.Job.{Job}
 use Rattle.tables.proofs.Boarding.{length_table, windows_board, cage_kept}
 use Rattle.cages.specs.Masking.{together, Homed, Masked, Joined}
@@ -220,18 +220,18 @@ module _ (c : Hand) (e : ℕ) (there : e < c.events) where
   own_real : e < events (call_of c)
   own_real = rw c.works.events_are there
 
-  module _ (k : Job) (i : ℕ) (q : i ≡ nat_abs (cage_word c.windows.now e)) (told : (k.horizon.0 ≡ c.horizon.0) × (reservoir_of k.reservoir ≡ cage_at c.cages.now i) × (k.events ≡ c.events)) where
+  module _ (k : Job) (i : ℕ) (q : i ≡ nat_abs (cage_word c.windows.now e)) (told : OfCage c.horizon.0 c.cages.now i c.events k) where
     its_cage : reservoir_of k.reservoir ≡ home (call_of c) e
-    its_cage = told.1 ∙ ap (cage_at c.cages.now) q
+    its_cage = told.reservoir_is ∙ ap (cage_at c.cages.now) q
 
     pub event_fits : Fit k c.lags.now
-    event_fits = fit_apart (call_of c) c.events c.board.now.words c.works (here (call_of c) e) k (nat_abs (cage_word c.windows.now e)) told.0 its_cage told.2 (c.works.sane.cage_real e own_real)
+    event_fits = fit_apart (call_of c) c.events c.board.now.words c.works (here (call_of c) e) k (nat_abs (cage_word c.windows.now e)) told.horizon_is its_cage told.events_are (c.works.sane.cage_real e own_real)
 
     pub event_held : {s : List ℤ} → Masked c.events c.windows.now e c.board.now.words s → Held k.events s
     event_held {s} m =
         let b = c.board.now.words in
         let h = c.held in
-        subst (λ x. Held x s) (sym told.2)
+        subst (λ x. Held x s) (sym told.events_are)
         (record {
           whole = m.whole;
           ranged = record { few = h.ranged.few; range = λ y r i. rw (m.is y r i) (shown_within (together c.windows.now e y) i (board b y i) (h.ranged.range y r i)) };
@@ -240,22 +240,22 @@ module _ (c : Hand) (e : ℕ) (there : e < c.events) where
 
     module _ {s s' b'' : List ℤ} {l l' : Log} (m : Masked c.events c.windows.now e c.board.now.words s) (back : Joined c.events c.windows.now e c.board.now.words s' b'') (r : Leads k.events (Serves k c.lags.now (board s)) (λ i. made (room l) i (event_attempts i e)) s l s' l') (held : Held c.events s') where
       pub event_kept : Held c.events b''
-      event_kept = held_back (call_of c) c.events c.board.now.words c.works c.held (here (call_of c) e) k (nat_abs (cage_word c.windows.now e)) told.0 its_cage told.2 m.is (λ i. event_attempts i e) r held b'' back.whole back.is
+      event_kept = held_back (call_of c) c.events c.board.now.words c.works c.held (here (call_of c) e) k (nat_abs (cage_word c.windows.now e)) told.horizon_is its_cage told.events_are m.is (λ i. event_attempts i e) r held b'' back.whole back.is
 
       pub event_works : Works (call_of c) c.events b''
-      event_works = works_next c.works (kinds_back (call_of c) c.events c.board.now.words c.works c.held (here (call_of c) e) k (nat_abs (cage_word c.windows.now e)) told.0 its_cage told.2 m.is (λ i. event_attempts i e) r held b'' back.whole back.is)
+      event_works = works_next c.works (kinds_back (call_of c) c.events c.board.now.words c.works c.held (here (call_of c) e) k (nat_abs (cage_word c.windows.now e)) told.horizon_is its_cage told.events_are m.is (λ i. event_attempts i e) r held b'' back.whole back.is)
 
       pub event_leads : Leads c.events (λ i. i ≡ call_of c) (λ i. made (room l) i (event_attempts i e)) c.board.now.words l b'' l'
       event_leads =
-          leads_back (call_of c) c.events c.board.now.words c.works c.held (here (call_of c) e) k (nat_abs (cage_word c.windows.now e)) told.0 its_cage told.2 m.is (λ i. event_attempts i e) r held b'' back.whole back.is
+          leads_back (call_of c) c.events c.board.now.words c.works c.held (here (call_of c) e) k (nat_abs (cage_word c.windows.now e)) told.horizon_is its_cage told.events_are m.is (λ i. event_attempts i e) r held b'' back.whole back.is
           (event_twin (call_of c) e own_real (table_of c.events c.windows.now c.board.now.words) (room l))
 
 -- ---- lags
 
-module _ (c : Hand) (k : Job) (told : (k.horizon.0 ≡ c.horizon.0) × (reservoir_of k.reservoir ≡ cage_at c.cages.now 0) × (k.events ≡ c.events)) where
+module _ (c : Hand) (k : Job) (told : OfCage c.horizon.0 c.cages.now 0 c.events k) where
   pub lags_lead : {b' : List ℤ} {l l' : Log} → Held c.events b' → Leads k.events (Serves k c.lags.now (board c.board.now.words)) (λ i. made (room l) i (lags_attempts i)) c.board.now.words l b' l' → Leads c.events (λ i. i ≡ call_of c) (λ i. made (room l) i (lags_attempts i)) c.board.now.words l b' l'
   lags_lead {b'} {l} held r =
-      leads_back (call_of c) c.events c.board.now.words c.works c.held (λ y. true) k 0 told.0 told.1 told.2 (λ y m i. sym (shown_true i (board c.board.now.words y i))) lags_attempts r held b' held.whole (λ y m i. refl)
+      leads_back (call_of c) c.events c.board.now.words c.works c.held (λ y. true) k 0 told.horizon_is told.reservoir_is told.events_are (λ y m i. sym (shown_true i (board c.board.now.words y i))) lags_attempts r held b' held.whole (λ y m i. refl)
       (lags_twin (call_of c) c.works.sane (table_of c.events c.windows.now c.board.now.words) (room l))
 
 -- ---- sets

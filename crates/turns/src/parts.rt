@@ -1,30 +1,23 @@
 // The parts of a round.
 ghost use Rattle.std.specs.Prelude.{◌≡◌, ◌+◌, ◌*◌, ◌<◌, ◌≤◌, length};
-ghost use Rattle.model.specs.Job.{cage_at};
 ghost use Rattle.model.specs.Agenda.{event_attempts, agenda};
-ghost use Rattle.tables.specs.Job.{reservoir_of};
+ghost use Rattle.tables.specs.Job.{OfCage};
 ghost use Rattle.rounds.specs.Sweeps.{lags_attempts, events_attempts};
 ghost use Rattle.turns.specs.Turns.{Done};
 
 use crate::Call;
-use cages::{join, mask};
+use cages::Home;
 use members::sweeps::all_sets;
 use rounds::{CageJob, Log};
-use tables::{Board, Job, cage_at, cage_of};
+use tables::{Board, Job, cage_of};
 
 impl Call<'_> {
     // Its job of one cage.
     fn job_of(&self, c: usize) -> Job
         requires { 4 * c + 4 ≤ length self.now.cages.now }
-        ensures { (result.horizon.0 ≡ self.now.horizon.0)
-            × (reservoir_of result.reservoir ≡ cage_at self.now.cages.now c)
-            × (result.events ≡ self.now.events) }
+        ensures { OfCage self.now.horizon.0 self.now.cages.now c self.now.events result }
     {
-        Job {
-            horizon: self.horizon,
-            reservoir: cage_at(self.cages, c),
-            events: self.events,
-        }
+        Job::of_cage(self.horizon, self.cages, c, self.events)
     }
 
     // All rules at e, as its cage sees them.
@@ -33,15 +26,20 @@ impl Call<'_> {
         ensures { Done (λ j. event_attempts j e) self.old log.old self.new log.new }
     {
         let job = self.job_of(cage_of(self.windows, e));
+        let home = Home {
+            table: self.windows,
+            events: self.events,
+            subject: e,
+        };
         let mut s = Board::blank();
-        mask(self.board, self.windows, self.events, e, &mut s);
+        home.mask(self.board, &mut s);
         let mut cage = CageJob {
             board: &mut s,
             lags: self.lags,
             job,
         };
         cage.event_rules(e, log);
-        join(&s, self.windows, self.events, e, self.board);
+        home.join(&s, self.board);
     }
 
     // All events in order.

@@ -10,6 +10,6 @@ returns c =
     let k = c.job_of-job in
     let r = c.all_lags in
     record {
-      leads = lags_lead c.args.self.now k.result k.ensures (held_as (ap (λ (k : Job). k.events) (job_is r.ensures.stays) ∙ k.ensures.2) refl r.new.self.held) r.ensures.leads;
+      leads = lags_lead c.args.self.now k.result k.ensures (held_as (ap (λ (k : Job). k.events) (job_is r.ensures.stays) ∙ k.ensures.events_are) refl r.new.self.held) r.ensures.leads;
       stays = refl;
     }

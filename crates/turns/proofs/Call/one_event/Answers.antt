@@ -23,7 +23,7 @@ invariant_of-self c =
     let i = c.cage_of in
     let r = c.event_rules in
     let lent : r.new.self.board.ghost_name ≡ _ = lent_is r.ensures.stays in
-    let same : r.new.self.job.events ≡ a.self.now.events = ap (λ (k : Job). k.events) (job_is r.ensures.stays) ∙ k.ensures.2 in
+    let same : r.new.self.job.events ≡ a.self.now.events = ap (λ (k : Job). k.events) (job_is r.ensures.stays) ∙ k.ensures.events_are in
     record {
       held = event_kept a.self.now a.e c.requires k.result i.result i.ensures k.ensures c.mask.ensures c.join.ensures (leads_to (search rules) r.ensures.leads) (held_as same (search rules) r.new.self.held);
       works = event_works a.self.now a.e c.requires k.result i.result i.ensures k.ensures c.mask.ensures c.join.ensures (leads_to (search rules) r.ensures.leads) (held_as same (search rules) r.new.self.held);
@@ -36,7 +36,7 @@ returns c =
     let i = c.cage_of in
     let r = c.event_rules in
     let lent : r.new.self.board.ghost_name ≡ _ = lent_is r.ensures.stays in
-    let same : r.new.self.job.events ≡ a.self.now.events = ap (λ (k : Job). k.events) (job_is r.ensures.stays) ∙ k.ensures.2 in
+    let same : r.new.self.job.events ≡ a.self.now.events = ap (λ (k : Job). k.events) (job_is r.ensures.stays) ∙ k.ensures.events_are in
     record {
       leads = event_leads a.self.now a.e c.requires k.result i.result i.ensures k.ensures c.mask.ensures c.join.ensures (leads_to (search rules) r.ensures.leads) (held_as same (search rules) r.new.self.held);
       stays = refl;

@@ -1,6 +1,0 @@
--- `cages::join`: of the first y events those of e's cage are put back. Assumes nothing.
-use Rattle.cages.proofs.Masking.{JoinedTo}
-use Rattle.cages.proofs.join.Given as goal
-
-abbrev pub invariant-loop-y : goal.invariant-loop-y
-invariant-loop-y l = JoinedTo l.y l.table l.e l.initial.b.words l.s.words l.b.words
