@@ -10,6 +10,7 @@ use borrow.Author.Tests.{eqb-true}
 use lib.Dec.{T, eqb}
 use lib.IntN.{ℤ, pos, neg_ℤ}
 use lib.ListN.{length}
+use Rattle.std.specs.Prelude.{is_some}
 use Rattle.integers.specs.Range.{Within}
 use Rattle.integers.proofs.Linear.{ints, sub_law, neg_law}
 use Rattle.integers.proofs.Tests.{is_true}
@@ -29,7 +30,7 @@ use Rattle.levels.proofs.Viewing.{here_view, before_here, seen_here, view_here}
 use Rattle.rules.specs.Values.{effect_of, IsLag}
 use Rattle.rules.specs.declared.lags.Lag.{Lag as Pair}
 use Rattle.rules.specs.declared.Effect.{Effect as Done}
-use Rattle.facts.specs.Quotes.{Any, is_there, lag_cited, lag_said, height_cited, level_cited, level_said, total_cited, set_cited, LagCites, LevelCites, Cites, Shows, TotalCites}
+use Rattle.facts.specs.Quotes.{Any, lag_cited, lag_said, height_cited, level_cited, level_said, total_cited, set_cited, LagCites, LevelCites, Cites, Shows, TotalCites}
 use Rattle.facts.specs.declared.LagCiting.{LagCiting}
 use Rattle.facts.specs.declared.LevelCiting.{LevelCiting}
 use Rattle.facts.specs.declared.TotalCiting.{TotalCiting}
@@ -200,10 +201,10 @@ own_test false z a t = absurd t
 
 lag_says : {starts ends : Bool} {l : Pair} {W : Windows} {c : LagCiting} → LagCites starts ends l W c → (z : ℕ) (k : End) → T (lag_cited c z k) → lag_said c z k ≡ W z k
 lag_says {c = c} l z t_min t =
-    let s = is_there c.from in
+    let s = is_some c.from in
     l.from_is.1 (subst T l.from_is.0 (own_test s z c.a t)) ∙ rw (← l.a_is, own_event s z c.a t)
 lag_says {c = c} l z t_max t =
-    let s = is_there c.to in
+    let s = is_some c.to in
     l.to_is.1 (subst T l.to_is.0 (own_test s z c.b t)) ∙ rw (← l.b_is, own_event s z c.b t)
 lag_says l z h_min t = absurd t
 lag_says l z h_max t = absurd t

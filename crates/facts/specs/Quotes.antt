@@ -1,5 +1,5 @@
 -- The facts of a slip as the code holds them: which are quoted and what is said of them, by the values made once for the slip.
-use Rattle.std.specs.Prelude.{◌≡◌, Bool, true, false, not, cond, ◌&&◌, ◌||◌, List, ℕ, ◌<◌, T, eqb, ℤ, pos, Option, None, Some}
+use Rattle.std.specs.Prelude.{◌≡◌, Bool, true, false, not, cond, ◌&&◌, ◌||◌, List, ℕ, ◌<◌, T, eqb, ℤ, pos, is_some, Option, None, Some}
 use Rattle.model.specs.Job.{End, t_min, t_max, h_min, h_max, Windows, Job as Call, any, produces, consumes, in_set}
 use Rattle.model.specs.View.{side, side_end, side_value, View}
 use Rattle.model.specs.Levels.{place}
@@ -35,19 +35,15 @@ pub record Any (n : ℕ) (E : View) (W : Windows) (u v : ℤ) (o : Others) : Typ
 
 -- ---- of a slip
 
--- Is a word there, and which?
-abbrev pub is_there : Option Word → Bool
-is_there None = false
-is_there (Some w) = true
-
+-- The value of a word that is there.
 abbrev pub value_of : Option Word → ℤ
 value_of None = pos 0
 value_of (Some w) = w.0
 
 -- A lag's: does it quote the end k of event z, and what does it say of it?
 abbrev pub lag_cited : LagCiting → ℕ → End → Bool
-lag_cited c z t_min = is_there c.from && eqb z c.a
-lag_cited c z t_max = is_there c.to && eqb z c.b
+lag_cited c z t_min = is_some c.from && eqb z c.a
+lag_cited c z t_max = is_some c.to && eqb z c.b
 lag_cited c z h_min = false
 lag_cited c z h_max = false
 
@@ -110,7 +106,7 @@ Known n (Total c) = Unit {0}
 
 -- A word is there by a test, and then it is v.
 abbrev pub Told : Bool → ℤ → Option Word → Type 0
-Told t v w = (is_there w ≡ t) × (T t → value_of w ≡ v)
+Told t v w = (is_some w ≡ t) × (T t → value_of w ≡ v)
 
 -- c decides the facts of a slip of a lag.
 pub record LagCites (starts ends : Bool) (l : Pair) (W : Windows) (c : LagCiting) : Type 0 where

@@ -15,7 +15,7 @@ use lib.ListN.{length, take, length-append}
 use mir.Val.{bool_byte}
 use lib.Seq.{drop-drop}
 use Rattle.std.specs.Bool.{then_some}
-use Rattle.std.specs.Prelude.{Option, Some, None}
+use Rattle.std.specs.Prelude.{is_some, Option, Some, None}
 use Rattle.integers.proofs.Tests.{decide}
 use Rattle.model.specs.Job.{End, t_min, t_max, h_min, h_max, Windows, Job as Call, events, in_set}
 use Rattle.model.specs.Rules.{Rule, Effect, total}
@@ -27,7 +27,7 @@ use Rattle.tables.specs.declared.Job.{Job}
 use Rattle.tables.specs.declared.ends.Word.{Word}
 use Rattle.rules.specs.Values.{effect_of}
 use Rattle.rules.specs.declared.Effect.{Effect as Done}
-use Rattle.facts.specs.Quotes.{lag_cited, lag_said, cites_of, says_of, Cites, Shows, TotalCites}
+use Rattle.facts.specs.Quotes.{value_of, lag_cited, lag_said, cites_of, says_of, Cites, Shows, TotalCites}
 use Rattle.facts.specs.declared.LagCiting.{LagCiting}
 use Rattle.facts.specs.declared.Citing.{Citing}
 use Rattle.slips.specs.Words.{Appended}
@@ -168,28 +168,39 @@ and_false : (b : Bool) → (b && false) ≡ false
 and_false true = refl
 and_false false = refl
 
-quote_length : (t : Bool) (z : ℕ) (k : End) (v : ℤ) → length (quote t z k v) ≡ bool_byte t
-quote_length true z k v = refl
-quote_length false z k v = refl
+-- A word that is there is a fact, and what it says.
+told_there : (z : ℕ) (k : End) (w : Option Word) → quote (is_some w) z k (value_of w) ≡ told z k w
+told_there z k None = refl
+told_there z k (Some w) = refl
+
+told_length : (z : ℕ) (k : End) (w : Option Word) → length (told z k w) ≡ bool_byte (is_some w)
+told_length z k None = refl
+told_length z k (Some w) = refl
 
 module _ (c : LagCiting) where
-  event_lag : (z : ℕ) → premises_of (lag_cited c) (lag_said c) z ≡ quote (c.starts && eqb z c.a) z t_min c.from.0 ++ quote (c.ends && eqb z c.b) z t_max c.to.0
-  event_lag z = ap (λ (l : List Premise). quote (c.starts && eqb z c.a) z t_min c.from.0 ++ l) (append-nil (quote (c.ends && eqb z c.b) z t_max c.to.0))
+  abbrev s : Bool
+  s = is_some c.from
+
+  abbrev t : Bool
+  t = is_some c.to
+
+  event_lag : (z : ℕ) → premises_of (lag_cited c) (lag_said c) z ≡ quote (s && eqb z c.a) z t_min (value_of c.from) ++ quote (t && eqb z c.b) z t_max (value_of c.to)
+  event_lag z = ap (λ (l : List Premise). quote (s && eqb z c.a) z t_min (value_of c.from) ++ l) (append-nil (quote (t && eqb z c.b) z t_max (value_of c.to)))
 
   lag_none : (z : ℕ) → (z ≡ c.a → ⊥) → (z ≡ c.b → ⊥) → premises_of (lag_cited c) (lag_said c) z ≡ []
-  lag_none z l u = event_lag z ∙ rw (ne_eqb z c.a l, ne_eqb z c.b u, and_false c.starts, and_false c.ends)
+  lag_none z l u = event_lag z ∙ rw (ne_eqb z c.a l, ne_eqb z c.b u, and_false s, and_false t)
 
-  lag_first : (c.a ≡ c.b → ⊥) → premises_of (lag_cited c) (lag_said c) c.a ≡ quote c.starts c.a t_min c.from.0
-  lag_first h = event_lag c.a ∙ rw (eq-eqb c.a c.a refl, ne_eqb c.a c.b h, and_true c.starts, and_false c.ends) (append-nil (quote c.starts c.a t_min c.from.0))
+  lag_first : (c.a ≡ c.b → ⊥) → premises_of (lag_cited c) (lag_said c) c.a ≡ told c.a t_min c.from
+  lag_first h = event_lag c.a ∙ rw (eq-eqb c.a c.a refl, ne_eqb c.a c.b h, and_true s, and_false t, told_there c.a t_min c.from) (append-nil (told c.a t_min c.from))
 
-  lag_second : (c.a ≡ c.b → ⊥) → premises_of (lag_cited c) (lag_said c) c.b ≡ quote c.ends c.b t_max c.to.0
-  lag_second h = event_lag c.b ∙ rw (eq-eqb c.b c.b refl, ne_eqb c.b c.a (λ e. h (sym e)), and_false c.starts, and_true c.ends)
+  lag_second : (c.a ≡ c.b → ⊥) → premises_of (lag_cited c) (lag_said c) c.b ≡ told c.b t_max c.to
+  lag_second h = event_lag c.b ∙ rw (eq-eqb c.b c.b refl, ne_eqb c.b c.a (λ e. h (sym e)), and_false s, and_true t, told_there c.b t_max c.to)
 
   -- In either order.
-  pub lag_onward : c.a ≤ c.b → told_by_lag c ≡ quote c.starts c.a t_min c.from.0 ++ quote c.ends c.b t_max c.to.0
+  pub lag_onward : c.a ≤ c.b → told_by_lag c ≡ told c.a t_min c.from ++ told c.b t_max c.to
   lag_onward h = rw (le-leb c.a c.b h)
 
-  pub lag_back : c.b < c.a → told_by_lag c ≡ quote c.ends c.b t_max c.to.0 ++ quote c.starts c.a t_min c.from.0
+  pub lag_back : c.b < c.a → told_by_lag c ≡ told c.b t_max c.to ++ told c.a t_min c.from
   lag_back h = rw (lt-leb c.a c.b h)
 
   module _ (n : ℕ) (known : (c.a < n) × (c.b < n)) where
@@ -200,20 +211,20 @@ module _ (c : LagCiting) where
         (λ t. let h = nleb→lt c.a c.b t in rw (lag_back h) (last h))
         (decide (leb c.a c.b))
       where
-        one : c.a ≡ c.b → premise_list n (lag_cited c) (lag_said c) ≡ quote c.starts c.a t_min c.from.0 ++ quote c.ends c.b t_max c.to.0
-        one e = listed_one (lag_cited c) (lag_said c) 0 c.b n (omega arith) known.1 (λ z f g h. lag_none z (λ i. h (i ∙ e)) h) ∙ rw (premises_none (lag_cited c) (lag_said c)) (event_lag c.b ∙ rw (e, eq-eqb c.b c.b refl, and_true c.starts, and_true c.ends))
+        one : c.a ≡ c.b → premise_list n (lag_cited c) (lag_said c) ≡ told c.a t_min c.from ++ told c.b t_max c.to
+        one e = listed_one (lag_cited c) (lag_said c) 0 c.b n (omega arith) known.1 (λ z f g h. lag_none z (λ i. h (i ∙ e)) h) ∙ rw (premises_none (lag_cited c) (lag_said c)) (event_lag c.b ∙ rw (e, eq-eqb c.b c.b refl, and_true s, and_true t, told_there c.b t_min c.from, told_there c.b t_max c.to))
 
-        first : c.a < c.b → premise_list n (lag_cited c) (lag_said c) ≡ quote c.starts c.a t_min c.from.0 ++ quote c.ends c.b t_max c.to.0
+        first : c.a < c.b → premise_list n (lag_cited c) (lag_said c) ≡ told c.a t_min c.from ++ told c.b t_max c.to
         first h = listed_two (lag_cited c) (lag_said c) c.a c.b n h known.1 lag_none ∙ rw (lag_first (λ e. omega arith), lag_second (λ e. omega arith))
 
-        last : c.b < c.a → premise_list n (lag_cited c) (lag_said c) ≡ quote c.ends c.b t_max c.to.0 ++ quote c.starts c.a t_min c.from.0
+        last : c.b < c.a → premise_list n (lag_cited c) (lag_said c) ≡ told c.b t_max c.to ++ told c.a t_min c.from
         last h = listed_two (lag_cited c) (lag_said c) c.b c.a n h known.0 (λ z l u. lag_none z u l) ∙ rw (lag_first (λ e. omega arith), lag_second (λ e. omega arith))
 
-  told_lag : (t : Bool) → length (cond t (quote c.starts c.a t_min c.from.0 ++ quote c.ends c.b t_max c.to.0) (quote c.ends c.b t_max c.to.0 ++ quote c.starts c.a t_min c.from.0)) ≡ bool_byte c.starts + bool_byte c.ends
-  told_lag true = length-append (quote c.starts c.a t_min c.from.0) (quote c.ends c.b t_max c.to.0) ∙ ap₂ ◌+◌ (quote_length c.starts c.a t_min c.from.0) (quote_length c.ends c.b t_max c.to.0)
-  told_lag false = length-append (quote c.ends c.b t_max c.to.0) (quote c.starts c.a t_min c.from.0) ∙ ap₂ ◌+◌ (quote_length c.ends c.b t_max c.to.0) (quote_length c.starts c.a t_min c.from.0) ∙ omega arith
+  told_lag : (o : Bool) → length (cond o (told c.a t_min c.from ++ told c.b t_max c.to) (told c.b t_max c.to ++ told c.a t_min c.from)) ≡ bool_byte s + bool_byte t
+  told_lag true = length-append (told c.a t_min c.from) (told c.b t_max c.to) ∙ ap₂ ◌+◌ (told_length c.a t_min c.from) (told_length c.b t_max c.to)
+  told_lag false = length-append (told c.b t_max c.to) (told c.a t_min c.from) ∙ ap₂ ◌+◌ (told_length c.b t_max c.to) (told_length c.a t_min c.from) ∙ omega arith
 
-  pub lag_length : length (told_by_lag c) ≡ bool_byte c.starts + bool_byte c.ends
+  pub lag_length : length (told_by_lag c) ≡ bool_byte s + bool_byte t
   lag_length = told_lag (leb c.a c.b)
 
 -- ---- the model's facts

@@ -36,8 +36,8 @@ premises_of c v z =
 abbrev pub told_by_lag : LagCiting → List Premise
 told_by_lag c =
     cond (leb c.a c.b)
-    (quote c.starts c.a t_min c.from.0 ++ quote c.ends c.b t_max c.to.0)
-    (quote c.ends c.b t_max c.to.0 ++ quote c.starts c.a t_min c.from.0)
+    (told c.a t_min c.from ++ told c.b t_max c.to)
+    (told c.b t_max c.to ++ told c.a t_min c.from)
 
 -- ---- of a slip
 

@@ -74,7 +74,7 @@ impl ByEvent for LevelCiting {
     fn event_facts(self, b: &Board, z: usize) -> EventFacts {
         let f = quoted(b, self, z);
         let own = z == self.view.subject;
-        let end = height_end(self.view.mirror);
+        let end = height_end(self.view.stance.mirror);
         EventFacts {
             lower: f.lower.then_some(said(own, self.from, self.after)),
             upper: f.upper.then_some(said(own, self.to, self.until)),
@@ -131,7 +131,9 @@ impl<'a> Quoting<'a> {
         ensures { result ≡ length (quoted_by self.now) }
     {
         match self.cited {
-            Citing::Lag(c) => usize::from(c.starts) + usize::from(c.ends),
+            Citing::Lag(c) => {
+                usize::from(c.from.is_some()) + usize::from(c.to.is_some())
+            },
             Citing::Level(c) => count_events(self.board, self.events, c),
             Citing::Total(c) => count_events(self.board, self.events, c),
         }
@@ -182,14 +184,12 @@ impl<'a> Writer<'a> {
         ensures words { Wrote (premise_words (told_by_lag c.now)) self.old self.new }
         ensures same_buffer { self.new.words.ghost_name ≡ self.old.words.ghost_name }
     {
-        let starts = c.starts.then_some(c.from.into());
-        let ends = c.ends.then_some(c.to.into());
         if c.a <= c.b {
-            self.put_fact(c.a, End::TMin, starts);
-            self.put_fact(c.b, End::TMax, ends);
+            self.put_fact(c.a, End::TMin, c.from);
+            self.put_fact(c.b, End::TMax, c.to);
         } else {
-            self.put_fact(c.b, End::TMax, ends);
-            self.put_fact(c.a, End::TMin, starts);
+            self.put_fact(c.b, End::TMax, c.to);
+            self.put_fact(c.a, End::TMin, c.from);
         }
     }
 

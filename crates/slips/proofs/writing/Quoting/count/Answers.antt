@@ -6,4 +6,4 @@ pub returns-in-Lag : goal.returns-in-Lag
 returns-in-Lag c =
     let e = c.in-Lag.is in
     let k = c.in-Lag.c in
-    rw (e, lag_listed k c.args.self.now.events (rw e at c.requires.known), lag_length k, c.from.ensures, c.from-in-Lag.ensures)
+    rw (e, lag_listed k c.args.self.now.events (rw e at c.requires.known), lag_length k, c.from.ensures, c.from-in-Lag.ensures, c.is_some.ensures, c.is_some-in-Lag.ensures)
