@@ -18,9 +18,11 @@ use Rattle.tables.specs.Board.{board, table_of}
 use Rattle.tables.specs.Job.{reservoir_of, board_call, Serves}
 use Rattle.tables.proofs.Boarding.{length_table}
 use Rattle.tables.proofs.Holding.{lags_of, board_serves, serves_alike}
-use Rattle.levels.specs.Values.{as_view, seen_by, Views}
+use Rattle.levels.specs.Values.{as_view, seen_by, Views, Sighted}
 use Rattle.levels.specs.declared.View.{View as Sight}
-use Rattle.levels.proofs.Viewing.{events_are, subject_is, most_here}
+use Rattle.levels.proofs.Viewing.{events_are, subject_is, sighted, most_here}
+use Rattle.rules.specs.Values.{IsLag}
+use Rattle.rules.specs.declared.lags.Lag.{Lag}
 use Rattle.silence.specs.Slack.{slack_of, moves, some_move}
 use Rattle.silence.specs.Calm.{reaches_early, spread_of, calm, all_calm, lag_kept}
 use Rattle.silence.proofs.Sparing.{still_idle, none_moves}
@@ -28,7 +30,7 @@ use Rattle.silence.proofs.Calming.{reached_apart, calm_quiet, all_calm_each, lag
 use Rattle.rules.specs.Numbers.{number_of}
 use Rattle.rounds.specs.State.{room, state_of, fixed, Of, Moves, Made}
 use Rattle.rounds.specs.Attempts.{Tried}
-use Rattle.rounds.specs.Sweeps.{first_of, Seen, Leaves, two_attempts, events_attempts}
+use Rattle.rounds.specs.Sweeps.{first_of, first_in, Seen, Looks, Leaves, two_attempts, events_attempts}
 use Rattle.rounds.specs.declared.Log.{Log}
 use Rattle.rounds.specs.declared.CageJob.{CageJob}
 use Rattle.rounds.proofs.Moves.{agree, leads_none, job_is, made_rest}
@@ -37,9 +39,8 @@ use Rattle.rounds.proofs.Moves.{agree, leads_none, job_is, made_rest}
 
 -- Rule r is the one of a family in the view v, which is the job's at one of its events.
 pub record Sees (k : CageJob) (r : ℕ) (f : Family) (v : Sight) : Type 0 where
-  pub rule_is : rule r ≡ reservoir v.mirror v.strict f
-  pub views : Views k.job.events (reservoir_of k.job.reservoir) v.mirror v.strict v.subject v
-  pub subject : v.subject < k.job.events
+  pub rule_is : rule r ≡ reservoir v.stance.mirror v.stance.strict f
+  pub looks : Looks k v
 
 level_first : (m s : Bool) → rule (first_of m s) ≡ reservoir m s level
 level_first false true = refl
@@ -80,29 +81,37 @@ height_number true false = refl
 
 -- A view says itself what it is of.
 module _ {n : ℕ} {c : Reservoir} {m b : Bool} {e : ℕ} {v : Sight} (s : Views n c m b e v) where
-  own_view : Views n c v.mirror v.strict v.subject v
+  own_view : Views n c v.stance.mirror v.stance.strict v.subject v
   own_view = record { is = λ W. s.is W ∙ rw (s.side_is, s.strict_is, subject_is s); side_is = refl; strict_is = refl }
 
--- They are the families' of the view at e of a side, before or by.
-module _ (k : CageJob) {m b : Bool} {e : ℕ} {v : Sight} (s : Seen k m b e v) (l : e < k.job.events) where
-  sees : (r : ℕ) {f : Family} → rule r ≡ reservoir m b f → Sees k r f v
-  sees r i = record { rule_is = i ∙ rw (s.side_is, s.strict_is); views = own_view s; subject = rw (subject_is s) l }
+-- It is one of the job's.
+pub looks : (k : CageJob) {m b : Bool} {e : ℕ} {v : Sight} → Seen k m b e v → e < k.job.events → Looks k v
+looks k s l = record { views = own_view s; subject = rw (subject_is s) l }
 
-  pub sees_level : Sees k (first_of m b) level v
-  sees_level = sees (first_of m b) (level_first m b)
+-- What it looks at is in range.
+pub sight_of : (k : CageJob) {v : Sight} → Looks k v → Sighted v (board k.board.now.words)
+sight_of k s = sighted s.views k.fit.cage k.held.ranged s.subject
 
-  pub sees_time : Sees k (first_of m b + 1) time v
-  sees_time = sees (first_of m b + 1) (time_next m b)
+-- Its rules are the families'.
+module _ (k : CageJob) {v : Sight} (s : Looks k v) where
+  sees : (r : ℕ) {f : Family} → rule r ≡ reservoir v.stance.mirror v.stance.strict f → Sees k r f v
+  sees r i = record { rule_is = i; looks = s }
 
-  pub sees_height : Sees k (first_of m b + 2) height v
-  sees_height = sees (first_of m b + 2) (height_last m b)
+  pub sees_level : Sees k (first_in v) level v
+  sees_level = sees (first_in v) (level_first v.stance.mirror v.stance.strict)
+
+  pub sees_time : Sees k (first_in v + 1) time v
+  sees_time = sees (first_in v + 1) (time_next v.stance.mirror v.stance.strict)
+
+  pub sees_height : Sees k (first_in v + 2) height v
+  sees_height = sees (first_in v + 2) (height_last v.stance.mirror v.stance.strict)
 
 -- After a move the view is the job's still.
-module _ {f : Call → State → State} {k : CageJob} {l : Log} {k' : CageJob} {l' : Log} (m : Moves f k l k' l') {e : ℕ} where
-  pub seen_next : {b s : Bool} {v : Sight} → Seen k b s e v → Seen k' b s e v
-  seen_next v = rw (job_is m.stays) v
+module _ {f : Call → State → State} {k : CageJob} {l : Log} {k' : CageJob} {l' : Log} (m : Moves f k l k' l') where
+  pub looks_next : {v : Sight} → Looks k v → Looks k' v
+  looks_next s = record { views = rw (job_is m.stays) s.views; subject = rw (job_is m.stays) s.subject }
 
-  pub there_next : e < k.job.events → e < k'.job.events
+  pub there_next : {e : ℕ} → e < k.job.events → e < k'.job.events
   there_next l = rw (job_is m.stays) l
 
 -- They are tried at any event, and those of a lag at its events.
@@ -124,16 +133,16 @@ module _ (k : CageJob) where
 
   module _ {r : ℕ} {f : Family} {v : Sight} (s : Sees k r f v) where
     -- What the rule of the family does not do on the board, rule r does not do to the table.
-    seen_still : (j : Call) → Of k j → (y : ℕ) → y < k.job.events → Idle (reservoir v.mirror v.strict f) j W v.subject y → Idle (rule r) j (U j) v.subject y
-    seen_still j h y m i = rw s.rule_is (table_idle j h (reservoir v.mirror v.strict f) v.subject y (rw h.holds.events_are s.subject) m i)
+    seen_still : (j : Call) → Of k j → (y : ℕ) → y < k.job.events → Idle (reservoir v.stance.mirror v.stance.strict f) j W v.subject y → Idle (rule r) j (U j) v.subject y
+    seen_still j h y m i = rw s.rule_is (table_idle j h (reservoir v.stance.mirror v.stance.strict f) v.subject y (rw h.holds.events_are s.looks.subject) m i)
 
   -- Where the level's slack does not move y.
   target_still : {r : ℕ} {v : Sight} {s : ℤ} → Sees k r height v → Leaves v k.board.now.words s → (j : Call) → Of k j → (y : ℕ) → y < k.job.events → moves (as_view v W) (seen_by v W) W s y ≡ false → Idle (rule r) j (U j) v.subject y
   target_still {v = v} {s} sees leaves j h y m e =
       let o = h.holds in
-      seen_still sees j h y m (still_idle v.mirror v.strict W v.subject y h (rw o.events_are sees.subject) (rw o.events_are m) {k = s}
-      (subst (λ (E : View). s ≡ slack_of E (seen_by v W)) (sees.views.is W) leaves)
-      (subst (λ (E : View). moves E (seen_by v W) W s y ≡ false) (sees.views.is W) e))
+      seen_still sees j h y m (still_idle v.stance.mirror v.stance.strict W v.subject y h (rw o.events_are sees.looks.subject) (rw o.events_are m) {k = s}
+      (subst (λ (E : View). s ≡ slack_of E (seen_by v W)) (sees.looks.views.is W) leaves)
+      (subst (λ (E : View). moves E (seen_by v W) W s y ≡ false) (sees.looks.views.is W) e))
 
   -- What is quiet on the board is quiet in the table.
   table_quiet : (j : Call) → Of k j → (e : ℕ) → e < events j → Quiet j W e → Quiet j (U j) e
@@ -155,31 +164,31 @@ module _ (k : CageJob) where
     passed : (todo : Call → List Attempt) → ((j : Call) → Of k j → Each (Still j (U j)) (todo j)) → Made todo k l k' l
     passed todo h = made_rest todo stays same (leads_none (λ j q. made_still (room l) j (state_of k.job.events j.window_table k.board.now.words l) (todo j) (h j q)))
 
-    pub lag_passed : {g : ℕ} {t : Bool} → g < length k.lags.now / 3 → t ≡ lag_kept k.lags.now W g → t ≡ true → Made (λ j. lag_attempts j g) k l k' l
-    lag_passed {g} m i e =
+    pub lag_passed : {g : ℕ} {lag : Lag} {t : Bool} → g < length k.lags.now / 3 → IsLag k.lags.now g lag → t ≡ lag_kept lag W → t ≡ true → Made (λ j. lag_attempts j g) k l k' l
+    lag_passed {g} m is i e =
         passed (λ j. lag_attempts j g) (λ j h.
         let there : g < lags j = rw h.holds.lags_are m in
-        let both = lag_idle j W g (rw h.holds.lags_are (sym i ∙ e)) in
+        let both = lag_idle j W g (rw h.holds.lags_are is) (sym i ∙ e) in
         let lag = lags_of h.holds k.fit g there in
         (table_idle j h (rule 1) g _ there (rw h.holds.events_are at lag.real_a) both.0, (table_idle j h (rule 2) g _ there (rw h.holds.events_are at lag.real_b) both.1, tt)))
 
-    pub two_passed : {r e : ℕ} {v : Sight} {t : Bool} → Sees k r level v → Sees k (r + 1) time v → v.subject ≡ e → t ≡ reaches_early (as_view v W) (seen_by v W) → t ≡ true → Made (λ j. two_attempts r e) k l k' l
-    two_passed {r} {v = v} first second i m e =
-        subst (λ e. Made (λ j. two_attempts r e) k l k' l) i (passed (λ j. two_attempts r v.subject) (λ j h.
-        let there : v.subject < events j = rw h.holds.events_are first.subject in
-        let both = reached_apart v.mirror v.strict W v.subject h there (subst (λ (E : View). reaches_early E (seen_by v W) ≡ true) (first.views.is W) (sym m ∙ e)) in
-        (seen_still first j h v.subject first.subject both.0, (seen_still second j h v.subject first.subject both.1, tt))))
+    pub two_passed : {r : ℕ} {v : Sight} {t : Bool} → Sees k r level v → Sees k (r + 1) time v → t ≡ reaches_early (as_view v W) (seen_by v W) → t ≡ true → Made (λ j. two_attempts r v.subject) k l k' l
+    two_passed {r} {v} first second m e =
+        passed (λ j. two_attempts r v.subject) (λ j h.
+        let there : v.subject < events j = rw h.holds.events_are first.looks.subject in
+        let both = reached_apart v.stance.mirror v.stance.strict W v.subject h there (subst (λ (E : View). reaches_early E (seen_by v W) ≡ true) (first.looks.views.is W) (sym m ∙ e)) in
+        (seen_still first j h v.subject first.looks.subject both.0, (seen_still second j h v.subject first.looks.subject both.1, tt)))
 
-    module _ {r e : ℕ} {v : Sight} {s : ℤ} (sees : Sees k r height v) (is : v.subject ≡ e) (leaves : Leaves v k.board.now.words s) where
-      pub target_passed : {y : ℕ} {t : Bool} → y < k.job.events → t ≡ moves (as_view v W) (seen_by v W) W s y → t ≡ false → Made (λ j. try r e y ∷ []) k l k' l
-      target_passed {y} m i f = subst (λ e. Made (λ j. try r e y ∷ []) k l k' l) is (passed (λ j. try r v.subject y ∷ []) (λ j h. (target_still sees leaves j h y m (sym i ∙ f), tt)))
+    module _ {r : ℕ} {v : Sight} {s : ℤ} (sees : Sees k r height v) (leaves : Leaves v k.board.now.words s) where
+      pub target_passed : {y : ℕ} {t : Bool} → y < k.job.events → t ≡ moves (as_view v W) (seen_by v W) W s y → t ≡ false → Made (λ j. try r v.subject y ∷ []) k l k' l
+      target_passed {y} m i f = passed (λ j. try r v.subject y ∷ []) (λ j h. (target_still sees leaves j h y m (sym i ∙ f), tt))
 
-      pub targets_passed : {t : Bool} → t ≡ some_move (as_view v W) (seen_by v W) W s → t ≡ false → Made (λ j. target_attempts j r e) k l k' l
+      pub targets_passed : {t : Bool} → t ≡ some_move (as_view v W) (seen_by v W) W s → t ≡ false → Made (λ j. target_attempts j r v.subject) k l k' l
       targets_passed m f =
-          subst (λ e. Made (λ j. target_attempts j r e) k l k' l) is (passed (λ j. target_attempts j r v.subject) (λ j h.
-          let count = events_are sees.views in
-          let none = none_moves (as_view v W) (seen_by v W) W s (rw count sees.subject) (sym m ∙ f) in
-          targets_still r j (U j) v.subject (λ y i. let i' = rw h.holds.events_are at i in target_still sees leaves j h y i' (none y (rw count i')))))
+          passed (λ j. target_attempts j r v.subject) (λ j h.
+          let count = events_are sees.looks.views in
+          let none = none_moves (as_view v W) (seen_by v W) W s (rw count sees.looks.subject) (sym m ∙ f) in
+          targets_still r j (U j) v.subject (λ y i. let i' = rw h.holds.events_are at i in target_still sees leaves j h y i' (none y (rw count i'))))
 
     module _ {d : ℤ} (spread : d ≡ spread_of k.job.events W) where
       pub event_passed : {e : ℕ} {t : Bool} → e < k.job.events → t ≡ calm k.job.events (reservoir_of k.job.reservoir) W e d → t ≡ true → Made (λ j. event_attempts j e) k l k' l
@@ -193,11 +202,10 @@ module _ (k : CageJob) where
 -- ---- the level stays
 
 -- An attempt of rules 5, 8, 11 and 14 leaves the level as it is.
-pub leaves_on : {k k' : CageJob} {l l' : Log} {r e y : ℕ} {v : Sight} {s : ℤ} → Sees k r height v → v.subject ≡ e → Leaves v k.board.now.words s → y < k.job.events
-    → Made (λ j. try r e y ∷ []) k l k' l' → Leaves v k'.board.now.words s
+pub leaves_on : {k k' : CageJob} {l l' : Log} {r y : ℕ} {v : Sight} {s : ℤ} → Sees k r height v → Leaves v k.board.now.words s → y < k.job.events
+    → Made (λ j. try r v.subject y ∷ []) k l k' l' → Leaves v k'.board.now.words s
 unfolding made
-leaves_on {k} {k'} {l} {l'} {r} {y = y} {v} sees i leaves m made =
-    let d : Made (λ j. try r v.subject y ∷ []) k l k' l' = rw i made in
+leaves_on {k} {k'} {l} {l'} {r} {y} {v} sees leaves m d =
     let b = k.board.now.words in
     let b' = k'.board.now.words in
     let j = board_call k.job k.lags.now b in
@@ -208,15 +216,15 @@ leaves_on {k} {k'} {l} {l'} {r} {y = y} {v} sees i leaves m made =
     let e = v.subject in
     let sent = j.window_table in
     let st = state_of n sent b l in
-    let E = view j v.mirror v.strict e in
-    let level : Windows → ℤ = λ W. most E (seen j v.mirror e W) in
-    let own : own_end (rule r) ≡ side_end v.mirror h_min = rw sees.rule_is in
+    let E = view j v.stance.mirror v.stance.strict e in
+    let level : Windows → ℤ = λ W. most E (seen j v.stance.mirror e W) in
+    let own : own_end (rule r) ≡ side_end v.stance.mirror h_min = rw sees.rule_is in
     let whole : length (table_of n sent b) ≡ 5 * events j = rw h.events_are (length_table n sent b) in
-    let there : e < events j = rw h.events_are sees.subject in
-    let same : (c : List ℤ) → level (windows (table_of n sent c)) ≡ level (board c) = λ c. most_agree E E.before (λ y l. refl) (seen j v.mirror e (windows (table_of n sent c))) (seen j v.mirror e (board c)) (look_agree (here j e) v.mirror (events j) (windows (table_of n sent c)) (board c) (rw h.events_are (agree n sent c))) there in
-    let stays = level_stays (room l) r j e y st v.mirror own whole (rw h.events_are m) v.strict there in
+    let there : e < events j = rw h.events_are sees.looks.subject in
+    let same : (c : List ℤ) → level (windows (table_of n sent c)) ≡ level (board c) = λ c. most_agree E E.before (λ y l. refl) (seen j v.stance.mirror e (windows (table_of n sent c))) (seen j v.stance.mirror e (board c)) (look_agree (here j e) v.stance.mirror (events j) (windows (table_of n sent c)) (board c) (rw h.events_are (agree n sent c))) there in
+    let stays = level_stays (room l) r j e y st v.stance.mirror own whole (rw h.events_are m) v.stance.strict there in
     let table : windows (table_of n sent b') ≡ windows (attempt (room l) r j e y st).table = ap (λ (x : State). windows x.table) (d.leads.is j served) in
     let is : level (board b) ≡ level (board b') = sym (same b) ∙ sym stays ∙ ap level (sym table) ∙ same b' in
-    let limit = side_limit v.mirror (reservoir_of k.job.reservoir) in
-    let at : (c : List ℤ) → Serves k.job k.lags.now (board c) j → slack_of (as_view v (board c)) (seen_by v (board c)) ≡ level (board c) -ℤ limit = λ c s. ap (λ (E : View). slack_of E (seen_by v (board c))) (sees.views.is (board c)) ∙ ap (λ x. x -ℤ limit) (sym (most_here v.mirror v.strict e (board c) s there)) in
+    let limit = side_limit v.stance.mirror (reservoir_of k.job.reservoir) in
+    let at : (c : List ℤ) → Serves k.job k.lags.now (board c) j → slack_of (as_view v (board c)) (seen_by v (board c)) ≡ level (board c) -ℤ limit = λ c s. ap (λ (E : View). slack_of E (seen_by v (board c))) (sees.looks.views.is (board c)) ∙ ap (λ x. x -ℤ limit) (sym (most_here v.stance.mirror v.stance.strict e (board c) s there)) in
     leaves ∙ at b served ∙ ap (λ x. x -ℤ limit) is ∙ sym (at b' next)

@@ -7,6 +7,8 @@ use Rattle.model.specs.Rounds.{Status, running, ended, settled, conflict, stoppe
 use Rattle.tables.specs.Board.{board}
 use Rattle.rules.specs.Values.{Tries, Does}
 use Rattle.rules.specs.declared.Effect.{Effect as Done}
+use Rattle.facts.specs.Quotes.{Cites}
+use Rattle.facts.specs.declared.Citing.{Citing}
 use Rattle.rounds.specs.State.{status_of, room, state_at, Grown}
 use Rattle.rounds.specs.declared.Log.{Log}
 use Rattle.rounds.specs.declared.CageJob.{CageJob}
@@ -60,3 +62,7 @@ Tried k q e y = Tries k.job k.lags.now (board k.board.now.words) q e y
 
 abbrev pub Found : CageJob → Rule → ℕ → ℕ → Done → Type 0
 Found k q e y x = Does k.job k.lags.now (board k.board.now.words) q e y x
+
+-- c decides the facts of its slip.
+abbrev pub Cited : CageJob → Rule → ℕ → ℕ → Done → Citing → Type 0
+Cited k q e y x c = Cites k.job k.lags.now (board k.board.now.words) q e y x c

@@ -1,5 +1,5 @@
 -- The attempts of a round in one cage, and what is known of a level between them.
-use Rattle.std.specs.Prelude.{◌≡◌, Bool, true, false, List, [], ◌∷◌, ℕ, ◌+◌, ℤ}
+use Rattle.std.specs.Prelude.{◌≡◌, Bool, true, false, List, [], ◌∷◌, ℕ, ◌+◌, ◌<◌, ℤ}
 use Rattle.model.specs.Job.{events, lags, Job as Call}
 use Rattle.model.specs.Agenda.{Attempt, try, each_of, lag_attempts, event_attempts}
 use Rattle.tables.specs.Board.{board}
@@ -19,6 +19,15 @@ first_of true false = 12
 -- v is the view of a side at e, before or by.
 abbrev pub Seen : CageJob → Bool → Bool → ℕ → View → Type 0
 Seen k m strict e v = Views k.job.events (reservoir_of k.job.reservoir) m strict e v
+
+-- v is one of the job's views, at one of its events.
+pub record Looks (k : CageJob) (v : View) : Type 0 where
+  pub views : Views k.job.events (reservoir_of k.job.reservoir) v.stance.mirror v.stance.strict v.subject v
+  pub subject : v.subject < k.job.events
+
+-- The first of the three rules of such a view.
+abbrev pub first_in : View → ℕ
+first_in v = first_of v.stance.mirror v.stance.strict
 
 -- The level of the view on a board leaves s over its limit.
 abbrev pub Leaves : View → List ℤ → ℤ → Type 0

@@ -6,69 +6,83 @@ ghost use Rattle.model.specs.Rounds.{acted};
 ghost use Rattle.rules.specs.Values.{rule_of, effect_of, is_idle};
 ghost use Rattle.rules.specs.Numbers.{number_of};
 ghost use Rattle.rounds.specs.State.{room, Moves, Made};
-ghost use Rattle.rounds.specs.Attempts.{stored, Tried, Found};
+ghost use Rattle.rounds.specs.Attempts.{stored, Tried, Found, Cited};
 
 use crate::{CageJob, Log};
+use facts::Citing;
 use facts::premises::citing;
-use rules::effects::effect;
-use rules::{Effect, Rule};
+use rules::{Attempt, Effect, Rule};
 use slips::Header;
 use slips::writing::Quoting;
 use tables::Board;
 
-// The new end of y's window, if there is one, stored.
-fn store(b: &mut Board, r: Rule, y: usize, x: Effect)
-    requires { y < 64 }
-    ensures { b.new.words ≡ stored (own_end (rule_of r)) y (effect_of x) b.old.words }
+// The new end of the target's window, if there is one, stored.
+fn store(b: &mut Board, h: Header)
+    requires { h.target < 64 }
+    ensures { b.new.words ≡ stored (own_end (rule_of h.rule)) h.target (effect_of h.effect) b.old.words }
 {
-    if let Effect::Narrows(v) = x {
-        b.set_end(r.own_end(), y, v);
+    if let Effect::Narrows(v) = h.effect {
+        b.set_end(h.rule.own_end(), h.target, v);
     }
 }
 
 // It is, if its slip was written.
-pub fn store_if(b: &mut Board, written: bool, r: Rule, y: usize, x: Effect)
-    requires { y < 64 }
-    ensures { b.new.words ≡ cond written (stored (own_end (rule_of r)) y (effect_of x) b.old.words) b.old.words }
+pub fn store_if(b: &mut Board, written: bool, h: Header)
+    requires { h.target < 64 }
+    ensures { b.new.words ≡ cond written (stored (own_end (rule_of h.rule)) h.target (effect_of h.effect) b.old.words) b.old.words }
 {
     if written {
-        store(b, r, y, x);
+        store(b, h);
     }
 }
 
 impl CageJob<'_> {
     // A narrowing or a conflict: its slip is entered, then the new end is stored.
-    fn act(&mut self, r: Rule, e: usize, y: usize, x: Effect, log: &mut Log<'_>)
-        requires { Tried self.old (rule_of r) e y × Found self.old (rule_of r) e y x × (is_idle (effect_of x) ≡ false) }
-        ensures { Moves (λ j. acted (room log.old) (number_of (rule_of r)) j e y (effect_of x)) self.old log.old self.new log.new }
+    fn act(&mut self, header: Header, cited: Citing, log: &mut Log<'_>)
+        requires { Tried self.old (rule_of header.rule) header.subject header.target
+            × Found self.old (rule_of header.rule) header.subject header.target header.effect
+            × Cited self.old (rule_of header.rule) header.subject header.target header.effect cited
+            × (is_idle (effect_of header.effect) ≡ false) }
+        ensures { Moves
+            (λ j. acted (room log.old) (number_of (rule_of header.rule)) j header.subject header.target (effect_of header.effect))
+            self.old log.old self.new log.new }
     {
         let facts = Quoting {
             board: self.board,
             events: self.job.events,
-            cited: citing(self.board, self.lags, self.job, r, e, y, x),
-        };
-        let header = Header {
-            rule: r,
-            subject: e,
-            target: y,
-            effect: x,
+            cited,
         };
         log.enter(header, &facts);
-        store_if(self.board, log.is_written(), r, y, x);
+        store_if(self.board, log.is_written(), header);
     }
 
     // One attempt; none once the call has ended.
-    pub fn attempt(&mut self, r: Rule, e: usize, y: usize, log: &mut Log<'_>)
-        requires { Tried self.old (rule_of r) e y }
-        ensures { Made (λ j. try (number_of (rule_of r)) e y ∷ []) self.old log.old self.new log.new }
+    pub fn attempt(&mut self, rule: Rule, subject: usize, target: usize, log: &mut Log<'_>)
+        requires { Tried self.old (rule_of rule) subject target }
+        ensures { Made (λ j. try (number_of (rule_of rule)) subject target ∷ []) self.old log.old self.new log.new }
     {
         if !log.is_running() {
             return;
         }
-        let x = effect(self.board, self.lags, self.job, r, e, y);
-        if x.is_idle() {
+        let attempt = Attempt {
+            board: self.board,
+            lags: self.lags,
+            job: self.job,
+            rule,
+            subject,
+            target,
+        };
+        let effect = attempt.effect();
+        if effect.is_idle() {
             return;
         }
-        self.act(r, e, y, x, log);
+        let cited = citing(attempt, effect);
+        let header = Header {
+            rule,
+            subject,
+            target,
+            effect,
+        };
+        self.act(header, cited, log);
     }
 }

@@ -2,16 +2,40 @@
 ghost use Rattle.std.specs.Prelude.{◌≡◌, [], ◌∷◌, ◌+◌, ◌/◌, ◌<◌, length};
 ghost use Rattle.model.specs.Agenda.{lag_attempts, target_attempts, three_attempts, event_attempts};
 ghost use Rattle.rounds.specs.State.{Made};
-ghost use Rattle.rounds.specs.Sweeps.{first_of, Seen, two_attempts, lags_attempts, events_attempts};
+ghost use Rattle.rounds.specs.Sweeps.{first_of, first_in, Seen, Looks, two_attempts, lags_attempts, events_attempts};
 
 use crate::{CageJob, Log};
-use levels::View;
+use levels::{Sight, View};
 use rules::lags::Lag;
 use rules::{Family, Rule};
-use silence::calm::{are_calm, is_calm, is_kept, reaches_early, spread};
+use silence::OneCage;
+use silence::calm::{is_kept, reaches_early, spread};
 use silence::slack::{is_any_moved, is_moved, slack};
 
 impl CageJob<'_> {
+    // ---- what its tests look at
+
+    // Its board in a view.
+    fn sight(&self, view: View) -> Sight<'_>
+        requires { Looks self.now view }
+        ensures { (result.view ≡ view) × (result.board.now ≡ self.now.board.now) }
+    {
+        Sight {
+            board: self.board,
+            view,
+        }
+    }
+
+    // Its board and its cage.
+    fn one_cage(&self) -> OneCage<'_>
+        ensures { (result.job ≡ self.now.job) × (result.board.now ≡ self.now.board.now) }
+    {
+        OneCage {
+            board: self.board,
+            job: self.job,
+        }
+    }
+
     // ---- lags
 
     // Rules 1 and 2 of lag g, unless both leave the windows as they are.
@@ -19,10 +43,10 @@ impl CageJob<'_> {
         requires { g < length self.old.lags.now / 3 }
         ensures { Made (λ j. lag_attempts j g) self.old log.old self.new log.new }
     {
-        if is_kept(self.board, self.lags, g) {
+        let lag = Lag::of_table(self.lags, g);
+        if is_kept(self.board, lag) {
             return;
         }
-        let lag = Lag::of_table(self.lags, g);
         self.attempt(Rule::LagUpper, g, lag.a, log);
         self.attempt(Rule::LagLower, g, lag.b, log);
     }
@@ -45,32 +69,33 @@ impl CageJob<'_> {
     }
 
     // Its first two rules, with target e: 3 and 4, 6 and 7, 9 and 10, 12 and 13. Both are passed over where e's level reaches the limit already at e's earliest minute.
-    fn two_rules(&mut self, mirror: bool, strict: bool, e: usize, log: &mut Log<'_>)
-        requires { e < self.old.job.events }
-        ensures { Made (λ j. two_attempts (first_of mirror strict) e) self.old log.old self.new log.new }
+    fn two_rules(&mut self, view: View, log: &mut Log<'_>)
+        requires { Looks self.old view }
+        ensures { Made (λ j. two_attempts (first_in view) view.subject) self.old log.old self.new log.new }
     {
-        let view = self.view_at(mirror, strict, e);
-        if reaches_early(self.board, view) {
+        if reaches_early(self.sight(view)) {
             return;
         }
-        self.attempt(Rule::reservoir(mirror, strict, Family::Level), e, e, log);
-        self.attempt(Rule::reservoir(mirror, strict, Family::Time), e, e, log);
+        let e = view.subject;
+        let s = view.stance;
+        self.attempt(Rule::reservoir(s.mirror, s.strict, Family::Level), e, e, log);
+        self.attempt(Rule::reservoir(s.mirror, s.strict, Family::Time), e, e, log);
     }
 
     // Its third rule, which is 5, 8, 11 or 14, with every target in event order: passed over is one that s, what e's level leaves over its limit, does not move. The level is added up once: no target moves an end that it reads.
-    fn all_targets(&mut self, mirror: bool, strict: bool, e: usize, log: &mut Log<'_>)
-        requires { e < self.old.job.events }
-        ensures { Made (λ j. target_attempts j (first_of mirror strict + 2) e) self.old log.old self.new log.new }
+    fn all_targets(&mut self, view: View, log: &mut Log<'_>)
+        requires { Looks self.old view }
+        ensures { Made (λ j. target_attempts j (first_in view + 2) view.subject) self.old log.old self.new log.new }
     {
-        let view = self.view_at(mirror, strict, e);
-        let s = slack(self.board, view);
-        if !is_any_moved(self.board, view, s) {
+        let sight = self.sight(view);
+        let s = slack(sight);
+        if !is_any_moved(sight, s) {
             return;
         }
-        let r = Rule::reservoir(mirror, strict, Family::Height);
+        let r = Rule::reservoir(view.stance.mirror, view.stance.strict, Family::Height);
         for y in 0..self.job.events {
             if is_moved(self.board, view, s, y) {
-                self.attempt(r, e, y, log);
+                self.attempt(r, view.subject, y, log);
             }
         }
     }
@@ -80,8 +105,9 @@ impl CageJob<'_> {
         requires { e < self.old.job.events }
         ensures { Made (λ j. three_attempts j (first_of mirror strict) e) self.old log.old self.new log.new }
     {
-        self.two_rules(mirror, strict, e, log);
-        self.all_targets(mirror, strict, e, log);
+        let view = self.view_at(mirror, strict, e);
+        self.two_rules(view, log);
+        self.all_targets(view, log);
     }
 
     // Rules 3 to 14 at e: before, its mirror, by, its mirror.
@@ -101,15 +127,15 @@ impl CageJob<'_> {
     pub fn all_events(&mut self, log: &mut Log<'_>)
         ensures { Made events_attempts self.old log.old self.new log.new }
     {
-        let k = self.job;
-        let mut d = spread(self.board, k.events);
-        if are_calm(self.board, k.events, k.reservoir, d) {
+        let n = self.job.events;
+        let mut d = spread(self.board, n);
+        if self.one_cage().are_calm(d) {
             return;
         }
-        for e in 0..k.events {
-            if !is_calm(self.board, k.events, k.reservoir, e, d) {
+        for e in 0..n {
+            if !self.one_cage().is_calm(e, d) {
                 self.event_rules(e, log);
-                d = spread(self.board, k.events);
+                d = spread(self.board, n);
             }
         }
     }

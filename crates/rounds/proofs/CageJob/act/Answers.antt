@@ -9,9 +9,9 @@ invariant_of-self c =
     let k = c.args.self.now in
     record {
       fit = k.fit;
-      held = act_held k (rule_of c.args.r) c.requires.0 c.requires.1 c.citing.ensures c.enter.ensures c.is_written.ensures c.store_if.ensures;
+      held = act_held k (rule_of c.args.header.rule) c.requires.0 c.requires.1 c.requires.2 c.enter.ensures c.is_written.ensures c.store_if.ensures;
     }
 
 pub returns : goal.returns
 returns c =
-    act_made c.args.self.now (rule_of c.args.r) c.requires.0 c.requires.1 c.citing.ensures c.enter.ensures c.is_written.ensures c.store_if.ensures c.requires.2 refl refl
+    act_made c.args.self.now (rule_of c.args.header.rule) c.requires.0 c.requires.1 c.requires.2 c.enter.ensures c.is_written.ensures c.store_if.ensures c.requires.3 refl refl

@@ -12,7 +12,7 @@ abbrev event_of : ℕ → Call → List Attempt
 event_of e j = event_attempts j e
 
 pub returns-then-are_calm : goal.returns-then-are_calm
-returns-then-are_calm c = events_passed c.args.self.now c.args.log.now refl refl c.spread-d.ensures.0 c.are_calm.ensures c.if-are_calm.true
+returns-then-are_calm c = events_passed c.args.self.now c.args.log.now refl refl c.spread-d.ensures.0 (rw (c.one_cage.ensures.0, c.one_cage.ensures.1) at c.are_calm.ensures) c.if-are_calm.true
 
 pub loop-e-init : goal.loop-e-init
 loop-e-init c = (made_none event_of _ _, c.spread-d.ensures.0, c.spread-d.ensures.1)
@@ -29,5 +29,5 @@ loop-e-preserved c =
           let d = w.spread-d-then-not-is_calm.ensures in
           rw (w.self-is, w.log-is, w.d-is) (made_on event_of e m (moves_to refl refl (moves_from {k = k} refl refl w.event_rules.ensures)), d.0, d.1)
       | else-not-is_calm w ↦
-          rw (w.self-is, w.log-is, w.d-is) (made_on event_of e m (event_passed k c.loop-e.log refl refl {d = c.loop-e.d.0} (rw same c.loop-e.invariant.1) real (rw same c.is_calm.ensures) w.if-not-is_calm.false), c.loop-e.invariant.1, c.loop-e.invariant.2)
+          rw (w.self-is, w.log-is, w.d-is) (made_on event_of e m (event_passed k c.loop-e.log refl refl {d = c.loop-e.d.0} (rw same c.loop-e.invariant.1) real (rw (c.one_cage-in-loop-e.ensures.0, c.one_cage-in-loop-e.ensures.1) at c.is_calm.ensures) w.if-not-is_calm.false), c.loop-e.invariant.1, c.loop-e.invariant.2)
     ]

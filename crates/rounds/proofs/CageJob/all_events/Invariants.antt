@@ -9,4 +9,4 @@ use Rattle.rounds.proofs.CageJob.all_events.Given as goal
 
 abbrev pub invariant-loop-e : goal.invariant-loop-e
 invariant-loop-e l =
-    Made (λ j. each_of (event_attempts j) 0 l.e) l.initial.self l.initial.log l.self l.log × (l.d.0 ≡ spread_of l.k.events (board l.self.board.now.words)) × Within l.d.0 20000
+    Made (λ j. each_of (event_attempts j) 0 l.e) l.initial.self l.initial.log l.self l.log × (l.d.0 ≡ spread_of l.n (board l.self.board.now.words)) × Within l.d.0 20000

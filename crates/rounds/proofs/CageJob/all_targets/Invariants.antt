@@ -9,4 +9,4 @@ use Rattle.rounds.proofs.CageJob.all_targets.Given as goal
 
 abbrev pub invariant-loop-y : goal.invariant-loop-y
 invariant-loop-y l =
-    Made (λ j. each_of (λ y. try (number_of (rule_of l.r)) l.e y ∷ []) 0 l.y) l.initial.self l.initial.log l.self l.log × Leaves l.view l.self.board.now.words l.s.0
+    Made (λ j. each_of (λ y. try (number_of (rule_of l.r)) l.view.subject y ∷ []) 0 l.y) l.initial.self l.initial.log l.self l.log × Leaves l.view l.self.board.now.words l.s.0

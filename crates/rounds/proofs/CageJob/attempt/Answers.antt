@@ -12,12 +12,13 @@ use Rattle.rounds.proofs.CageJob.attempt.Goals as goal
 pub returns-then-not-is_running : goal.returns-then-not-is_running
 returns-then-not-is_running c =
     let a = c.args in
-    made_rest (λ j. try (number_of (rule_of a.r)) a.e a.y ∷ []) refl refl (attempt_off (number_of (rule_of a.r)) a.e a.y c.is_running.ensures (ap not c.if-not-is_running.true))
+    let r = number_of (rule_of a.rule) in
+    made_rest (λ j. try r a.subject a.target ∷ []) refl refl (attempt_off r a.subject a.target c.is_running.ensures (ap not c.if-not-is_running.true))
 
 pub returns-then-is_idle : goal.returns-then-is_idle
 returns-then-is_idle c =
-    made_idle c.args.self.now (rule_of c.args.r) c.requires c.effect-x.ensures c.args.log.now c.is_running.ensures (ap not c.if-not-is_running.false) refl refl c.is_idle.ensures c.if-is_idle.true
+    made_idle c.args.self.now (rule_of c.args.rule) c.requires c.effect-effect.ensures c.args.log.now c.is_running.ensures (ap not c.if-not-is_running.false) refl refl c.is_idle.ensures c.if-is_idle.true
 
 pub returns : goal.returns
 returns c =
-    made_acts c.args.self.now (rule_of c.args.r) c.requires c.effect-x.ensures c.args.log.now c.is_running.ensures (ap not c.if-not-is_running.false) refl refl c.act.ensures
+    made_acts c.args.self.now (rule_of c.args.rule) c.requires c.effect-effect.ensures c.args.log.now c.is_running.ensures (ap not c.if-not-is_running.false) refl refl c.act.ensures

@@ -7,7 +7,7 @@ use Rattle.rounds.proofs.Passing.{lag_passed}
 use Rattle.rounds.proofs.CageJob.lag_rules.Goals as goal
 
 pub returns-then-is_kept : goal.returns-then-is_kept
-returns-then-is_kept c = lag_passed c.args.self.now c.args.log.now refl refl c.requires c.is_kept.ensures c.if-is_kept.true
+returns-then-is_kept c = lag_passed c.args.self.now c.args.log.now refl refl c.requires c.of_table-lag.ensures c.is_kept.ensures c.if-is_kept.true
 
 pub returns : goal.returns
 returns c =

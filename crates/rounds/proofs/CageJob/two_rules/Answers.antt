@@ -3,30 +3,24 @@ use mathlib.Core.Path.{◌≡◌, refl, ap, ◌∙◌}
 use mathlib.Core.List.{[], ◌∷◌}
 use Prim.Native.Nat.{◌+◌}
 use Rattle.model.specs.Agenda.{try}
-use Rattle.levels.proofs.Viewing.{sighted, subject_is}
 use Rattle.rules.specs.Values.{rule_of}
 use Rattle.rules.specs.Numbers.{number_of}
-use Rattle.rounds.specs.Sweeps.{first_of}
+use Rattle.rounds.specs.Sweeps.{first_in}
 use Rattle.rounds.proofs.Moves.{moves_from, made_both}
 use Rattle.rounds.proofs.Passing.{level_number, time_number, sees_level, sees_time, two_passed}
 use Rattle.rounds.proofs.CageJob.two_rules.Goals as goal
 
-pub reaches_early-requires : goal.reaches_early-requires
-reaches_early-requires c =
-    let k = c.args.self.now in
-    sighted c.view_at-view.ensures k.fit.cage k.held.ranged c.requires
-
 pub returns-then-reaches_early : goal.returns-then-reaches_early
 returns-then-reaches_early c =
     let k = c.args.self.now in
-    let v = c.view_at-view.ensures in
-    two_passed k c.args.log.now refl refl (sees_level k v c.requires) (sees_time k v c.requires) (subject_is v) c.reaches_early.ensures c.if-reaches_early.true
+    let s = c.sight.ensures in
+    two_passed k c.args.log.now refl refl (sees_level k c.requires) (sees_time k c.requires) (rw (s.0, s.1) at c.reaches_early.ensures) c.if-reaches_early.true
 
 pub returns : goal.returns
 returns c =
-    let a = c.args in
-    let e = a.e in
-    let r = first_of a.mirror a.strict in
-    let level : number_of (rule_of c.reservoir.result) ≡ r = ap number_of c.reservoir.ensures ∙ level_number a.mirror a.strict in
-    let time : number_of (rule_of c.reservoir-2.result) ≡ r + 1 = ap number_of c.reservoir-2.ensures ∙ time_number a.mirror a.strict in
+    let v = c.args.view in
+    let e = v.subject in
+    let r = first_in v in
+    let level : number_of (rule_of c.reservoir.result) ≡ r = ap number_of c.reservoir.ensures ∙ level_number v.stance.mirror v.stance.strict in
+    let time : number_of (rule_of c.reservoir-2.result) ≡ r + 1 = ap number_of c.reservoir-2.ensures ∙ time_number v.stance.mirror v.stance.strict in
     moves_from refl refl (made_both (λ j. try r e e ∷ []) (λ j. try (r + 1) e e ∷ []) (rw level at c.attempt.ensures) (rw time at c.attempt-2.ensures))
