@@ -11,14 +11,14 @@ use lib.ListN.{length}
 use lib.Signed.{le_z}
 use Rattle.integers.specs.Range.{eq_z}
 use Rattle.integers.proofs.Tests.{and_out, true_is}
-use Rattle.model.specs.Job.{widest, cage_at, Job}
+use Rattle.model.specs.Job.{widest, Job}
 use Rattle.model.specs.Slips.{at}
 use Rattle.model.specs.Questions.{pass, refuse, questions}
 use Rattle.model.specs.Reader.{stop_of, counted, marked, ends_right, read_from, read_all, judged, check}
 use Rattle.model.specs.Reader as model
 use Rattle.model.proofs.Questions.{Asked, asked}
-use Rattle.tables.specs.Board.{board, table_of, Loaded}
-use Rattle.tables.specs.Job.{reservoir_of, call}
+use Rattle.tables.specs.Board.{board, table_of, WindowTable, Loaded}
+use Rattle.tables.specs.Job.{OfCage, call}
 use Rattle.questions.specs.declared.Refusal.{Refusal}
 use Rattle.judging.specs.Ready.{job_of}
 use Rattle.judging.specs.Wide.{Wide}
@@ -83,17 +83,22 @@ module _ {h : ℤ} {cs table ws gs list : List ℤ} (p : Passing h cs table ws g
   pub few : length table / 5 ≤ 64
   few = facts.sane.few_events
 
-  pub whole_events : length table ≡ 5 * (length table / 5)
+  whole_events : length table ≡ 5 * (length table / 5)
   whole_events = facts.whole_events
 
-  pub called : {c : Call} {b : List ℤ} → c.job.horizon.0 ≡ h → c.cages.now ≡ cs → c.table.now ≡ table → c.lags.now ≡ ws → c.sets.now ≡ gs →
-      reservoir_of c.job.reservoir ≡ cage_at cs 0 → c.job.events ≡ length table / 5 → Loaded c.job.events table b → Wide c.job.events h (board b) c.wide.now.words → Called c b
-  called e f g i k r m l o =
+  pub window_table : WindowTable table
+  window_table = record { few = few; whole = whole_events }
+
+  pub called : {c : Call} {b : List ℤ} → c.cages.now ≡ cs → c.table.now ≡ table → c.lags.now ≡ ws → c.sets.now ≡ gs → OfCage h cs 0 (length table / 5) c.job →
+      Loaded (length table / 5) table b → Wide c.job.events c.job.horizon.0 (board b) c.wide.now.words → Called c b
+  called f g i k o l w =
+      let e = o.horizon_is in
+      let m = o.events_are in
       record {
-        seated = record { sane = rw (e, f, g, i, k) facts.sane; first = rw f (sym r); long = rw (g, m) whole_events };
+        seated = record { sane = rw (e, f, g, i, k) facts.sane; first = rw f (sym o.reservoir_is); long = rw (g, m) whole_events };
         standing = rw (e, f, g, i, k) facts.standing;
-        loaded = rw g l;
-        opened = rw e o;
+        loaded = rw (g, m) l;
+        opened = w;
       }
 
 -- ---- the questions up to 12

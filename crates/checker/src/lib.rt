@@ -20,7 +20,7 @@ use slips::MARK;
 use slips::reading::trailer_of;
 use slips::words::{index, not_negative, word_is};
 use std::fmt;
-use tables::{Board, Job, Time, cage_at};
+use tables::{Board, Job, Time};
 
 // The reader's answer to a list that it accepts.
 #[derive(Clone, Copy, PartialEq, Eq)]
@@ -112,14 +112,9 @@ fn judge(
         table.new
         result }
 {
-    let n = table.len() / 5;
-    let job = Job {
-        horizon: h,
-        reservoir: cage_at(cages, 0),
-        events: n,
-    };
+    let job = Job::of_cage(h, cages, 0, table.len() / 5);
     let mut b = Board::blank();
-    b.load(table, n);
+    b.load(table);
     let mut wide = Board::blank();
     widen(&b, job, &mut wide);
     let call = Call {
@@ -131,7 +126,7 @@ fn judge(
         wide: &wide,
     };
     let judgement = judge_slips(&mut b, &call, list)?;
-    b.unload(n, table);
+    b.unload(table);
     Ok(judgement)
 }
 

@@ -17,9 +17,8 @@ use Rattle.model.specs.Rules.{Rule, lag_upper, lag_lower, finding}
 use Rattle.model.specs.Slips.{Premise, Explanation, rule_of}
 use Rattle.model.specs.Reader.{gives}
 use Rattle.model.proofs.Alone.{masked, alone, bare, events_apart, home_word, sent_apart, shown_true, gives_alone}
-use Rattle.tables.specs.Job.{reservoir_of, Kinds, Serves, Fit}
+use Rattle.tables.specs.Job.{OfCage, Kinds, Serves, Fit}
 use Rattle.tables.specs.declared.Job.{Job}
-use Rattle.tables.specs.declared.Reservoir.{Reservoir}
 use Rattle.cages.specs.Masking.{Homed}
 use Rattle.rules.specs.Values.{family_of, rule_of as coded, Tries}
 use Rattle.rules.proofs.Numbering.{rule_number}
@@ -67,20 +66,21 @@ module _ (c : Call) (seated : Sits c) where
   cage_there e l = seated.sane.cage_real e (rw counted l)
 
   -- The numbers of the code's job with any of the call's cages are in range.
-  fit_cage : (i : ℕ) → i < length c.cages.now / 4 → (r : Reservoir) → cage_at c.cages.now i ≡ reservoir_of r → Fit (record { horizon = k.horizon; reservoir = r; events = k.events }) c.lags.now
-  fit_cage i l r e =
+  fit_cage : (i : ℕ) → i < length c.cages.now / 4 → {o : Job} → OfCage k.horizon.0 c.cages.now i k.events o → Fit o c.lags.now
+  fit_cage i l t =
       let s = seated.sane in
       record {
-        horizon_low = s.horizon_low;
-        horizon_high = s.horizon_high;
-        cage = rw e at (s.cage i l);
-        few_events = rw counted at s.few_events;
+        horizon_low = rw t.horizon_is s.horizon_low;
+        horizon_high = rw t.horizon_is s.horizon_high;
+        cage = rw t.reservoir_is (s.cage i l);
+        few_events = rw (t.events_are, ← counted) s.few_events;
         few_lags = s.few_lags;
-        lag = rw counted at s.lag;
+        lag = rw (t.events_are, ← counted) s.lag;
       }
 
   pub fit : Fit k c.lags.now
-  fit = fit_cage 0 seated.sane.some_cage k.reservoir seated.first
+  fit =
+      fit_cage 0 seated.sane.some_cage (record { horizon_is = refl; reservoir_is = sym seated.first; events_are = refl })
 
   -- ---- as a lag meets it
 
@@ -101,12 +101,9 @@ module _ (c : Call) (seated : Sits c) where
 
   -- ---- as a rule at e meets it
 
-  module _ (e : ℕ) (l : e < k.events) (r : Reservoir) (home : reservoir_of r ≡ cage_at c.cages.now (nat_abs (cage_word c.table.now e))) where
-    abbrev own : Job
-    own = record { horizon = k.horizon; reservoir = r; events = k.events }
-
+  module _ (e : ℕ) (l : e < k.events) (own : Job) (home : OfCage k.horizon.0 c.cages.now (nat_abs (cage_word c.table.now e)) k.events own) where
     pub fit_own : Fit own c.lags.now
-    fit_own = fit_cage (cage_of j e) (cage_there e l) r (sym home)
+    fit_own = fit_cage (cage_of j e) (cage_there e l) home
 
     module _ {W X : Windows} (masks : (y : ℕ) → y < k.events → (i : End) → X y i ≡ masked (here j e) W y i) where
       pub serves_own : Kinds k.events W (windows c.table.now) → Serves own c.lags.now X (alone j e)
@@ -115,11 +112,11 @@ module _ (c : Call) (seated : Sits c) where
           let count : events (alone j e) ≡ k.events = events_apart j (here j e) cage ∙ counted in
           record {
             holds = record {
-              horizon_is = refl;
+              horizon_is = sym home.horizon_is;
               cages_are = refl;
-              reservoir_is = sym home;
+              reservoir_is = sym home.reservoir_is;
               home_is = λ y m. home_word j (here j e) cage y (rw (events_apart j (here j e) cage) at m);
-              events_are = count;
+              events_are = count ∙ sym home.events_are;
               lags_are = refl;
             };
             kinds = λ y m.
@@ -155,27 +152,27 @@ upper_gives_bare j W s fs e = (lag_gives j W (headed s fs) lag_upper (rule_numbe
 pub lower_gives_bare : (j : model.Job) (W : Windows) (s : Slip) (fs : List Premise) → coded s.rule ≡ lag_lower → gives j W (headed s fs) ≡ gives (bare j) W (headed s fs)
 lower_gives_bare j W s fs e = (lag_gives j W (headed s fs) lag_lower (rule_number (coded s.rule) ∙ e)).1 refl
 
--- A slip's rule at its event, in the event's cage r, on windows X that show the events of that cage alone.
-module _ (c : Call) (W X : Windows) (s : Named) (a : AtHome c W s) (r : Reservoir) (home : reservoir_of r ≡ cage_at c.cages.now (nat_abs (cage_word c.table.now s.subject)))
+-- A slip's rule at its event, in the job of the event's cage, on windows X that show the events of that cage alone.
+module _ (c : Call) (W X : Windows) (s : Named) (a : AtHome c W s) (own : Job) (home : OfCage c.job.horizon.0 c.cages.now (nat_abs (cage_word c.table.now s.subject)) c.job.events own)
     (masks : (z : ℕ) → z < c.job.events → (i : End) → X z i ≡ masked (here (job_of c) s.subject) W z i) where
   -- It can be tried there.
-  pub tries_own : Tries (own c a.seated s.subject a.event r home) c.lags.now X (coded s.slip.rule) s.subject s.target
+  pub tries_own : Tries own c.lags.now X (coded s.slip.rule) s.subject s.target
   tries_own =
       record {
-        fit = fit_own c a.seated s.subject a.event r home;
-        windows = range_own c a.seated s.subject a.event r home masks a.range;
-        subject = rw a.rule_is a.event;
-        target = a.there;
+        fit = fit_own c a.seated s.subject a.event own home;
+        windows = rw home.events_are (range_own c a.seated s.subject a.event own home masks a.range);
+        subject = rw (a.rule_is, home.events_are) a.event;
+        target = rw home.events_are a.there;
       }
 
   -- What it gives there it gives in the call.
-  pub gives_home : {b : Bool} → ((j : model.Job) → Serves (own c a.seated s.subject a.event r home) c.lags.now X j → (fs : List Premise) → b ≡ gives j X (headed s.slip fs)) → (fs : List Premise) → b ≡ gives (job_of c) W (headed s.slip fs)
+  pub gives_home : {b : Bool} → ((j : model.Job) → Serves own c.lags.now X j → (fs : List Premise) → b ≡ gives j X (headed s.slip fs)) → (fs : List Premise) → b ≡ gives (job_of c) W (headed s.slip fs)
   gives_home h fs =
       let is = a.rule_is in
       let count = counted c a.seated in
       let e = s.subject_is in
       let y = s.target_is in
-      h (alone (job_of c) s.subject) (serves_own c a.seated s.subject a.event r home masks a.kinds) fs
+      h (alone (job_of c) s.subject) (serves_own c a.seated s.subject a.event own home masks a.kinds) fs
       ∙ sym (subst (λ z. gives (job_of c) W (headed s.slip fs) ≡ gives (alone (job_of c) z) X (headed s.slip fs)) (sym e)
       (gives_alone (job_of c) (headed s.slip fs) W X _ _ (family_of a.variant.family) (rule_number (coded s.slip.rule) ∙ is)
       (rw (← e, count) a.event) (rw (← y, count) a.there)

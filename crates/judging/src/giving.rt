@@ -16,7 +16,7 @@ ghost use Rattle.judging.specs.Ready.{job_of, ReadyFor, Sought, AtHome, Totalled
 use crate::naming::named;
 use crate::premises::{facts_true, narrow_by};
 use crate::{Call, Named};
-use cages::mask;
+use cages::Home;
 use questions::Question;
 use rules::effects::{bound_effect, finding_effect};
 use rules::findings::finding;
@@ -24,7 +24,7 @@ use rules::{Finding, Rule};
 use sets::{begin, count};
 use slips::Slip;
 use slips::words::word_is;
-use tables::{Board, Job, Word, cage_at, cage_of};
+use tables::{Board, Job, Word, cage_of};
 use totals::total_finding;
 
 // Is the finding of rule r the bound v or a stricter one?
@@ -82,16 +82,22 @@ fn home_gives(b: &Board, c: &Call, s: &Named) -> bool
     requires { AtHome c.now (board b.now.words) s.now }
     ensures { (fs : List Premise) → result ≡ gives (job_of c.now) (board b.now.words) (headed s.now.slip fs) }
 {
-    let own = Job {
-        horizon: c.job.horizon,
-        reservoir: cage_at(c.cages, cage_of(c.table, s.subject)),
-        events: c.job.events,
-    };
+    let own = Job::of_cage(
+        c.job.horizon,
+        c.cages,
+        cage_of(c.table, s.subject),
+        c.job.events,
+    );
     if c.cages.len() == 4 {
         return rule_gives(b, c.lags, own, s);
     }
+    let home = Home {
+        table: c.table,
+        events: c.job.events,
+        subject: s.subject,
+    };
     let mut seen = Board::blank();
-    mask(b, c.table, c.job.events, s.subject, &mut seen);
+    home.mask(b, &mut seen);
     rule_gives(&seen, c.lags, own, s)
 }
 

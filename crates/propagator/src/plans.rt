@@ -31,7 +31,7 @@ fn planned(
 {
     let events = table.len() / 5;
     let mut board = Board::blank();
-    board.load(table, events);
+    board.load(table);
     let most = fuel(limit, buffer.len());
     let mut call = Call {
         board: &mut board,
@@ -50,7 +50,7 @@ fn planned(
         at: used,
     };
     list.append_trailer(slips, last);
-    board.unload(events, table);
+    board.unload(table);
     Answer {
         verdict: ended.verdict,
         slips,

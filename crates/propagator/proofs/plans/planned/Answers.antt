@@ -8,7 +8,10 @@ use Rattle.propagator.proofs.plans.planned.Goals as goal
 
 pub load-requires : goal.load-requires
 load-requires c =
-    (few _ c.args.limit c.args.buffer.now c.requires, whole_table _ c.args.limit c.args.buffer.now c.requires)
+    record {
+      few = few _ c.args.limit c.args.buffer.now c.requires;
+      whole = whole_table _ c.args.limit c.args.buffer.now c.requires;
+    }
 
 pub fuel-most-requires : goal.fuel-most-requires
 fuel-most-requires c = rw (back32 c.args.limit (search)) (limit_low _ c.args.limit c.args.buffer.now c.requires)
