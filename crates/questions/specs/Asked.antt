@@ -13,8 +13,8 @@ abbrev pub check_of : Result (Unit {0}) Refusal → model.Check
 check_of (Ok _) = model.pass
 check_of (Err r) = model.refuse (number_of r.question) r.place
 
--- A question put, as a check.
-abbrev pub put : Result (Unit {0}) Question → model.Check
+-- A question put, as a check: passed, whatever is answered then, or refused with place 0.
+abbrev pub put : {A : Type 0} → Result A Question → model.Check
 put (Ok _) = model.pass
 put (Err q) = model.refuse (number_of q) 0
 
