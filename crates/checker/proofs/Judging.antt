@@ -3,11 +3,13 @@
 use mathlib.Core.Path.{◌≡◌, refl, sym, ◌∙◌}
 use mathlib.Core.Bool.{Bool, true, false}
 use mathlib.Core.List.{List}
-use Prim.Native.Nat.{ℕ, ◌+◌, ◌*◌, ◌/◌, ◌≤◌}
+use Prim.Native.Nat.{ℕ, ◌+◌, ◌-◌, ◌*◌, ◌/◌, ◌≤◌}
 use native.Mathlib.Omega.{arith}
 use lib.IntN.{ℤ, pos, nat_abs}
 use Rattle.std.specs.Prelude.{Result, Ok, Err}
-use lib.ListN.{length}
+use lib.ListN.{length, take}
+use Rattle.std.proofs.lemmas.List.{length-take-le}
+use Rattle.checker.proofs.Cutting.{same_read}
 use lib.Signed.{le_z}
 use Rattle.integers.specs.Range.{eq_z}
 use Rattle.integers.proofs.Tests.{and_out, true_is}
@@ -44,6 +46,13 @@ module _ (c : Call) (list b' : List ℤ) where
 
   abbrev reading_over : model.Read
   reading_over = read_from j (widest j) list (stop_of list) (nat_abs (counted list)) 0 0 0 false table
+
+  -- What reading the words before the trailer leaves is what reading the list leaves.
+  pub cut_ends : (r : Result Tail Refusal) → Ends c (read_from j (widest j) (take (length list - 3) list) (length (take (length list - 3) list)) (nat_abs (counted list)) 0 0 0 false table) b' (length (take (length list - 3) list)) r →
+      Ends c reading_over b' (stop_of list) r
+  cut_ends r e =
+      let long : length (take (length list - 3) list) ≡ stop_of list = length-take-le (length list - 3) list (omega arith) in
+      rw (long, same_read list (stop_of list) j (widest j) (nat_abs (counted list)) 0 0 0 false table) at e
 
   -- All slips read: question 19 decides, and the windows left follow it.
   closed : (t : Tail) (c : Bool) → ends_right list t.after t.last ≡ c → (v : Result Judgement Refusal) → reply_of v ≡ closing_reply list t →

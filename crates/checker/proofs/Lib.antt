@@ -1,3 +1,4 @@
 pub mod Turning
 pub mod Looping
+pub mod Cutting
 pub mod Judging

@@ -1,14 +1,15 @@
 -- One slip read, asked and applied; then all slips in turn.
 -- Assumes nothing.
-use mathlib.Core.Path.{◌≡◌, refl, sym, ◌∙◌}
-use mathlib.Core.Bool.{Bool, true, false}
+use mathlib.Core.Path.{◌≡◌, refl, sym}
+use mathlib.Core.Bool.{Bool, true, false, not}
 use mathlib.Core.List.{List}
-use Prim.Native.Nat.{ℕ, suc, ◌+◌, ◌*◌, ◌<◌, ◌≤◌}
+use Prim.Native.Nat.{ℕ, suc, ◌+◌, ◌*◌}
 use native.Mathlib.Omega.{arith}
-use lib.IntN.{ℤ, pos, nat_abs}
+use lib.IntN.{ℤ, pos}
+use Rattle.std.specs.Prelude.{Some, None, is_some}
 use lib.ListN.{set, length}
 use Rattle.integers.specs.Range.{eq_z}
-use Rattle.model.specs.Job.{End, word, Windows, windows, events, Job}
+use Rattle.model.specs.Job.{word, Windows, windows, events, Job}
 use Rattle.model.specs.Rules.{own_end}
 use Rattle.model.specs.Slips.{Explanation, slip_length, premise_count, slip_at}
 use Rattle.model.specs.Questions.{Check, pass, refuse}
@@ -22,21 +23,34 @@ use Rattle.rules.specs.Values.{rule_of}
 use Rattle.rules.proofs.Numbering.{rule_number}
 use Rattle.slips.specs.Slip.{explanation_of}
 use Rattle.slips.specs.declared.Slip.{Slip}
+use Rattle.tables.specs.declared.ends.Word.{Word}
 use Rattle.judging.specs.Ready.{job_of, ReadyFor}
 use Rattle.judging.specs.declared.Call.{Call}
-use Rattle.judging.proofs.Passing.{header_signs}
+use Rattle.judging.specs.declared.Named.{Named}
 use Rattle.checker.specs.Turns.{Applies, slip_asked}
 
 -- ---- the narrowing made
 
-module _ (n : ℕ) (sent b : List ℤ) (full : length b ≡ 256) (s : Slip) {t : Bool} (zero-kind : t ≡ eq_z s.kind.0 (pos 0)) where
-  abbrev Done : Bool → List ℤ → Type 0
-  Done c b' = (c ≡ is_conflict (explanation_of s)) × (table_of n sent b' ≡ applied (table_of n sent b) (explanation_of s))
+module _ (n : ℕ) (sent : List ℤ) (s : Named) where
+  -- A conflict: none.
+  pub none_made : (b : List ℤ) → s.bound ≡ None → table_of n sent b ≡ applied (table_of n sent b) (explanation_of s.slip)
+  none_made b e = go (eq_z s.slip.kind.0 (pos 0)) refl
+    where
+      go : (t : Bool) → eq_z s.slip.kind.0 (pos 0) ≡ t → table_of n sent b ≡ applied (table_of n sent b) (explanation_of s.slip)
+      go true f = rw f refl
+      go false f = let h = rw (s.bound_is, f) at e in cc
 
-  pub one_made : {b' : List ℤ} (y : ℕ) (k : End) → t ≡ false → k ≡ own_end (rule_of s.rule) → y ≡ nat_abs s.target.0 → y < n → n ≤ 64 → b' ≡ set b (64 * word k + y) s.value.0 → Done false b'
-  one_made {b'} y k e o q l m g =
-      let z = sym zero-kind ∙ e in
-      (sym z, rw (z, rule_number (rule_of s.rule)) (rw (g, o, ← q) (table_set n sent b full y (own_end (rule_of s.rule)) s.value.0 l m)))
+  -- A bound: stored at the rule's own end.
+  pub one_made : (b : List ℤ) {b' : List ℤ} {v : Word} → length b ≡ 256 → s.bound ≡ Some v → Applies n s → b' ≡ set b (64 * word (own_end (rule_of s.slip.rule)) + s.target) v.0 →
+      table_of n sent b' ≡ applied (table_of n sent b) (explanation_of s.slip)
+  one_made b {b'} {v} full e a g = go (eq_z s.slip.kind.0 (pos 0)) refl
+    where
+      go : (t : Bool) → eq_z s.slip.kind.0 (pos 0) ≡ t → table_of n sent b' ≡ applied (table_of n sent b) (explanation_of s.slip)
+      go true f = let h = rw (s.bound_is, f) at e in cc
+      go false f =
+          let h = rw (s.bound_is, f) at e in
+          let is : s.slip.value ≡ v = cc in
+          rw (f, rule_number (rule_of s.slip.rule), is, ← s.target_is, g) (table_set n sent b full s.target (own_end (rule_of s.slip.rule)) v.0 a.event a.few)
 
 -- ---- one slip
 
@@ -65,13 +79,23 @@ module _ (j : Job) (wide W : Windows) (list : List ℤ) (stop p left : ℕ) wher
   slip_there s e = asked_slip e
 
 -- A slip that passed can be applied.
-pub applies_is : (c : Call) {b : List ℤ} → ReadyFor c b → (s : Slip) (left : ℕ) → pass ≡ slip_questions (job_of c) (board c.wide.now.words) (board b) (explanation_of s) left → Applies c.job.events s
+pub applies_is : (c : Call) {b : List ℤ} → ReadyFor c b → (s : Named) (left : ℕ) → pass ≡ slip_questions (job_of c) (board c.wide.now.words) (board b) (explanation_of s.slip) left → Applies c.job.events s
 applies_is c {b} h s left e =
     let j = job_of c in
-    let p = passed j (board c.wide.now.words) (board b) (explanation_of s) left (sym e) in
-    let o = named j (explanation_of s) p.named in
+    let p = passed j (board c.wide.now.words) (board b) (explanation_of s.slip) left (sym e) in
+    let o = named j (explanation_of s.slip) p.named in
     let count : events j ≡ c.job.events = omega (arith, h.seated.long) in
-    record { few = h.range.few; sign = (header_signs j (explanation_of s) p.named).1; event = rw (← count) o.target_real }
+    record { few = h.range.few; event = rw (s.target_is, ← count) o.target_real }
+
+-- A slip without a bound is a conflict.
+pub no_bound : (s : Named) {t : Bool} → is_some s.bound ≡ not t → t ≡ is_conflict (explanation_of s.slip)
+no_bound s {t} e = go (eq_z s.slip.kind.0 (pos 0)) refl t e
+  where
+    go : (z : Bool) → eq_z s.slip.kind.0 (pos 0) ≡ z → (t : Bool) → is_some s.bound ≡ not t → t ≡ is_conflict (explanation_of s.slip)
+    go true f true h = sym f
+    go true f false h = let g = rw (s.bound_is, f) at h in cc
+    go false f true h = let g = rw (s.bound_is, f) at h in cc
+    go false f false h = sym f
 
 -- ---- all slips in turn
 

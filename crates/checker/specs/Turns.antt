@@ -1,6 +1,5 @@
 -- One slip after another, as the reader takes them in turn.
-use Rattle.std.specs.Prelude.{◌≡◌, List, ℕ, ◌+◌, ◌≤◌, ◌<◌, T, ℤ, pos, nat_abs, Result, Ok, Err}
-use Rattle.std.specs.Int.Signed.{le_z}
+use Rattle.std.specs.Prelude.{◌≡◌, List, ℕ, ◌+◌, ◌≤◌, ◌<◌, ℤ, Result, Ok, Err}
 use Rattle.model.specs.Job as model
 use Rattle.model.specs.Job.{Windows, sent}
 use Rattle.model.specs.Standing.{Standing}
@@ -8,10 +7,10 @@ use Rattle.model.specs.Slips.{slip_length, premise_count, slip_at}
 use Rattle.model.specs.Questions.{Check, pass, refuse, ◌then◌, ask}
 use Rattle.model.specs.Reader.{Read, whole, slip_questions, is_conflict, applied}
 use Rattle.tables.specs.Board.{board, table_of, Loaded}
-use Rattle.slips.specs.declared.Slip.{Slip}
 use Rattle.judging.specs.Ready.{job_of, Sits}
 use Rattle.judging.specs.Wide.{Wide}
 use Rattle.judging.specs.declared.Call.{Call}
+use Rattle.judging.specs.declared.Named.{Named}
 use Rattle.questions.specs.Numbers.{number_of}
 use Rattle.questions.specs.declared.Question.{Question}
 use Rattle.questions.specs.declared.Refusal.{Refusal}
@@ -20,10 +19,9 @@ use Rattle.checker.specs.declared.Tail.{Tail}
 -- ---- one slip
 
 -- A slip whose narrowing can be stored.
-pub record Applies (n : ℕ) (s : Slip) : Type 0 where
+pub record Applies (n : ℕ) (s : Named) : Type 0 where
   pub few : n ≤ 64
-  pub sign : T (le_z (pos 0) s.target.0)
-  pub event : nat_abs s.target.0 < n
+  pub event : s.target < n
 
 -- Questions 13 to 18 of the slip at word p; the place is 0 here.
 abbrev pub slip_asked : model.Job → Windows → Windows → List ℤ → ℕ → ℕ → ℕ → Check

@@ -90,8 +90,7 @@ fn judge_slips(b: &mut Board, c: &Call, list: &[i32]) -> Result<Judgement, Refus
         result }
 {
     let count = index(trailer_of(list).slips);
-    let stop = list.len() - 3;
-    let tail = read_slips(b, c, list, stop, count)?;
+    let tail = read_slips(b, c, &list[..list.len() - 3], count)?;
     closing(list, tail)
 }
 

@@ -1,69 +1,61 @@
 // All slips in turn, each narrowing made before the next.
-ghost use Rattle.std.specs.Prelude.{◌≡◌, false, List, ◌≤◌, ℤ, length};
+ghost use Rattle.std.specs.Prelude.{◌≡◌, false, List, ℕ, ◌<◌, ◌≤◌, ℤ, length};
 ghost use Rattle.model.specs.Job.{widest};
-ghost use Rattle.model.specs.Reader.{is_conflict, applied, read_from};
+ghost use Rattle.model.specs.Reader.{applied, read_from};
 ghost use Rattle.tables.specs.Board.{table_of};
 ghost use Rattle.slips.specs.Slip.{explanation_of};
 ghost use Rattle.judging.specs.Ready.{job_of, ReadyFor};
 ghost use Rattle.checker.specs.Turns.{Applies, Stepped, Called, Ends};
 
 use crate::Tail;
-use judging::Call;
 use judging::giving::slip_questions;
+use judging::{Call, Named};
 use questions::{Question, Refusal};
-use slips::Slip;
 use slips::reading::read_slip;
-use slips::words::{index, word_is};
 use tables::Board;
 
-// The slip's narrowing made. Is it a conflict, which makes none?
-fn apply(b: &mut Board, n: usize, s: &Slip) -> bool
-    requires { Applies n s.now }
-    ensures { (sent : List ℤ) →
-        (result ≡ is_conflict (explanation_of s.now))
-        × (table_of n sent b.new.words ≡ applied (table_of n sent b.old.words) (explanation_of s.now)) }
+// The slip's narrowing made; a conflict makes none.
+fn apply(b: &mut Board, s: &Named)
+    requires { s.now.target < 64 }
+    ensures { (n : ℕ) →
+        Applies n s.now →
+        (sent : List ℤ) →
+        table_of n sent b.new.words ≡ applied (table_of n sent b.old.words) (explanation_of s.now.slip) }
 {
-    if word_is(s.kind, 0) {
-        return true;
+    if let Some(bound) = s.bound {
+        b.set_end(s.slip.rule.own_end(), s.target, bound);
     }
-    b.set_end(s.rule.own_end(), index(s.target), s.value);
-    false
 }
 
 // 13 to 18 of the slip at p, with its narrowing made; left slips follow it.
 fn take_slip(
     b: &mut Board,
     c: &Call,
-    list: &[i32],
-    stop: usize,
+    slips: &[i32],
     p: usize,
     left: usize,
 ) -> Result<Tail, Question>
-    requires { ReadyFor c.now b.old.words × (p ≤ stop) × (stop ≤ length list.now) }
-    ensures { Stepped c.now list.now stop p left b.old.words b.new.words result }
+    requires { ReadyFor c.now b.old.words × (p ≤ length slips.now) }
+    ensures { Stepped c.now slips.now (length slips.now) p left b.old.words b.new.words result }
 {
-    let (slip, next) = read_slip(list, stop, p).ok_or(Question::Slip)?;
-    slip_questions(b, c, &slip, left)?;
-    let conflict = apply(b, c.job.events, &slip);
+    let (slip, next) = read_slip(slips, p).ok_or(Question::Slip)?;
+    let named = slip_questions(b, c, &slip, left)?;
+    apply(b, &named);
     Ok(Tail {
         after: next,
         last: p,
-        conflict,
+        conflict: named.bound.is_none(),
     })
 }
 
-// 13 to 18 of count slips in turn, each narrowing made before the next slip.
-pub fn read_slips(
-    b: &mut Board,
-    c: &Call,
-    list: &[i32],
-    stop: usize,
-    count: usize,
-) -> Result<Tail, Refusal>
-    requires { Called c.now b.old.words × (stop ≤ length list.now) }
+// 13 to 18 of count slips in turn, each narrowing made before the next slip. The slips are the list's words before its trailer.
+pub fn read_slips(b: &mut Board, c: &Call, slips: &[i32], count: usize) -> Result<Tail, Refusal>
+    requires { Called c.now b.old.words }
     ensures { Ends c.now
-        (read_from (job_of c.now) (widest (job_of c.now)) list.now stop count 0 0 0 false c.now.table.now)
-        b.new.words stop result }
+        (read_from (job_of c.now) (widest (job_of c.now)) slips.now (length slips.now) count 0 0 0 false c.now.table.now)
+        b.new.words
+        (length slips.now)
+        result }
 {
     let mut tail = Tail {
         after: 0,
@@ -72,7 +64,7 @@ pub fn read_slips(
     };
     for i in 0..count {
         let left = count - i - 1;
-        tail = take_slip(b, c, list, stop, tail.after, left).map_err(|question| Refusal {
+        tail = take_slip(b, c, slips, tail.after, left).map_err(|question| Refusal {
             question,
             place: i,
         })?;

@@ -1,5 +1,5 @@
 -- What a call has when it judges a slip, and what is asked of one fact.
-use Rattle.std.specs.Prelude.{◌≡◌, Bool, true, false, ◌&&◌, List, ℕ, ◌*◌, ◌<◌, ◌≤◌, T, ℤ, pos, nat_abs, length, Option, Some, None, Result, Ok, Err}
+use Rattle.std.specs.Prelude.{◌≡◌, Bool, true, false, ◌&&◌, List, ℕ, ◌*◌, ◌<◌, ◌≤◌, T, ℤ, pos, nat_abs, length, Option, Some, None}
 use Rattle.std.specs.Int.Signed.{le_z}
 use Rattle.integers.specs.Range.{Within}
 use Rattle.model.specs.Job as model
@@ -7,13 +7,11 @@ use Rattle.model.specs.Job.{End, h_min, h_max, meets, Windows, windows, Inside, 
 use Rattle.model.specs.Standing.{Sane, SaneSet, Ranged}
 use Rattle.model.specs.Rules.{total, target_fits}
 use Rattle.model.specs.Slips.{Premise, premise_event, premise_end}
-use Rattle.model.specs.Questions.{Check, pass, refuse, is_event, in_range}
+use Rattle.model.specs.Questions.{is_event, in_range}
 use Rattle.model.specs.Reader.{names}
 use Rattle.tables.specs.Board.{board}
 use Rattle.tables.specs.Job.{reservoir_of, call, Kinds}
 use Rattle.tables.specs.declared.Job.{Job}
-use Rattle.questions.specs.Numbers.{number_of}
-use Rattle.questions.specs.declared.Question.{Question}
 use Rattle.rules.specs.Values.{variant_of, rule_of}
 use Rattle.rules.specs.declared.Variant.{Variant}
 use Rattle.totals.specs.Totals.{Adds}
@@ -91,11 +89,6 @@ pub record Belongs (gs : List ℤ) (j : model.Job) (g y : ℕ) : Type 0 where
   pub sane : SaneSet (events j) gs g
   pub event : y < events j
   pub member : T (in_set j g y)
-
--- A question put, as a check.
-abbrev pub put : Result (Unit {0}) Question → Check
-put (Ok _) = pass
-put (Err q) = refuse (number_of q) 0
 
 -- ---- a fact
 

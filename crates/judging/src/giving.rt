@@ -1,29 +1,28 @@
 // 16 to 18: what its rule gives on the fact windows, and what it does.
-ghost use Rattle.std.specs.Prelude.{◌≡◌, cond, List, ◌<◌, ◌≤◌, pos};
+ghost use Rattle.std.specs.Prelude.{◌≡◌, cond, List, ◌<◌, ◌≤◌, pos, IfOk};
 ghost use Rattle.integers.specs.Range.{eq_z};
 ghost use Rattle.model.specs.Job as model;
 ghost use Rattle.model.specs.Rules.{own_end, effect, failed};
 ghost use Rattle.model.specs.Slips.{Premise};
-ghost use Rattle.model.specs.Questions.{ask};
 ghost use Rattle.model.specs.Reader.{narrowed, as_strict, gives, fits_there, slip_questions};
 ghost use Rattle.tables.specs.Board.{board};
 ghost use Rattle.tables.specs.Job.{Serves};
 ghost use Rattle.rules.specs.Values.{rule_of, finding_of, Tries};
-ghost use Rattle.questions.specs.Numbers.{number_of};
+ghost use Rattle.questions.specs.Asked.{put};
 ghost use Rattle.slips.specs.Slip.{headed, explanation_of};
-ghost use Rattle.judging.specs.Ready.{job_of, ReadyFor, Sought, AtHome, Totalled, Belongs, put};
+ghost use Rattle.judging.specs.Ready.{job_of, ReadyFor, Sought, AtHome, Totalled, Belongs};
 
 use crate::naming::named;
 use crate::premises::{facts_true, narrow_by};
 use crate::{Call, Named};
 use cages::Home;
 use questions::Question;
+use questions::asked::ask;
 use rules::effects::{bound_effect, finding_effect};
 use rules::findings::finding;
 use rules::{Finding, Rule};
 use sets::{begin, count};
 use slips::Slip;
-use slips::words::word_is;
 use tables::{Board, Job, Word, cage_of};
 use totals::total_finding;
 
@@ -46,10 +45,10 @@ fn concludes(b: &Board, s: &Named, f: Finding) -> bool
         (as_strict (own_end (rule_of s.now.slip.rule)) s.now.slip.value.0 (finding_of f)) }
 {
     let r = s.slip.rule;
-    if word_is(s.slip.kind, 0) {
-        return finding_effect(b, r, s.target, f).has_failed();
+    match s.bound {
+        Some(v) => as_strict(r, v, f),
+        None => finding_effect(b, r, s.target, f).has_failed(),
     }
-    as_strict(r, s.slip.value, f)
 }
 
 // 16. Does the slip's rule of 1..14 give its conclusion or a stricter one on the windows of the board?
@@ -116,33 +115,33 @@ fn facts_give(c: &Call, s: &Named) -> bool
     }
 }
 
-// A question put: is the answer yes?
-fn ask(question: Question, yes: bool) -> Result<(), Question>
-    ensures { put result ≡ ask (number_of question) yes }
-{
-    yes.then_some(()).ok_or(question)
-}
-
 // 17, of kinds 1 to 4: a bound narrows the standing window without emptying it. 18, of kind 0: a conflict is the last slip counted.
 fn does_right(b: &Board, s: &Named, left: usize) -> Result<(), Question>
     requires { s.now.target < 64 }
     ensures { (fs : List Premise) → put result ≡ fits_there (board b.now.words) (headed s.now.slip fs) left }
 {
-    if word_is(s.slip.kind, 0) {
+    let Some(v) = s.bound else {
         return ask(Question::Conflict, left == 0);
-    }
-    let x = bound_effect(b, s.slip.rule.own_end(), s.target, s.slip.value);
+    };
+    let x = bound_effect(b, s.slip.rule.own_end(), s.target, v);
     ask(Question::Narrows, x.has_narrowed())
 }
 
-// Questions 14 to 18 of one slip, with as many left to read: the first "no", if there is one.
-pub fn slip_questions(b: &Board, c: &Call, s: &Slip, left: usize) -> Result<(), Question>
+// Questions 14 to 18 of one slip, with as many left to read: the first "no", or the slip as 14 names it.
+pub fn slip_questions<'a>(
+    b: &Board,
+    c: &Call,
+    s: &Slip<'a>,
+    left: usize,
+) -> Result<Named<'a>, Question>
     requires { ReadyFor c.now b.now.words }
-    ensures { put result
+    ensures asked { put result
         ≡ slip_questions (job_of c.now) (board c.now.wide.now.words) (board b.now.words) (explanation_of s.now) left }
+    ensures named { IfOk result (λ m. m.slip ≡ s.now) }
 {
     let s = named(c, s).ok_or(Question::Names)?;
     ask(Question::Facts, facts_true(b, s.slip.facts))?;
     ask(Question::Rule, facts_give(c, &s))?;
-    does_right(b, &s, left)
+    does_right(b, &s, left)?;
+    Ok(s)
 }

@@ -72,7 +72,7 @@ fn target_right(c: &Call, r: Rule, e: usize, y: usize) -> bool
     }
 }
 
-// 14. The slip with its subject and target, if these and its fact events exist, fact kinds are 1..4, the target fits the rule, and the kind is the rule's own, or 0 with value 0.
+// 14. The slip with its subject, target and bound, if subject, target and fact events exist, fact kinds are 1..4, the target fits the rule, and the kind is the rule's own, or 0 with value 0.
 pub fn named<'a>(c: &Call, s: &Slip<'a>) -> Option<Named<'a>>
     requires { Sits c.now }
     ensures { Names14 (job_of c.now) s.now result }
@@ -100,5 +100,6 @@ pub fn named<'a>(c: &Call, s: &Slip<'a>) -> Option<Named<'a>>
         slip: *s,
         subject,
         target,
+        bound: (!word_is(s.kind, 0)).then_some(s.value),
     })
 }

@@ -1,4 +1,4 @@
-// The facts of a slip: 14 and 15, and windows narrowed by them.
+// The facts of a slip: 14 and 15, and windows narrowed by them. That n is at most 64 stays in contracts, as in the questions' asked.rt.
 ghost use Rattle.std.specs.Prelude.{◌≡◌, ◌≤◌, T};
 ghost use Rattle.model.specs.Slips.{premise_event, premise_end};
 ghost use Rattle.model.specs.Reader.{narrow, narrowed, all_true, premises_fit};
@@ -6,7 +6,7 @@ ghost use Rattle.tables.specs.Board.{board};
 ghost use Rattle.slips.specs.Slip.{premise_of, premises_in};
 ghost use Rattle.judging.specs.Ready.{fits_one, true_of, Names, Same};
 
-use slips::words::{between, index, is_event};
+use slips::words::{index, is_event};
 use slips::{Fact, Facts};
 use tables::{Board, End};
 
@@ -15,7 +15,7 @@ fn fact_fits(f: Fact, n: usize) -> bool
     requires { n ≤ 64 }
     ensures { result ≡ fits_one n (premise_of f) }
 {
-    is_event(f.event, n) & between(f.kind, 1, 4)
+    is_event(f.event, n) & End::try_from(f.kind).is_ok()
 }
 
 // 14. Does every fact name an event of n and a kind 1..4?
@@ -32,10 +32,7 @@ fn fact_true(b: &Board, f: Fact) -> bool
     ensures { result ≡ true_of (board b.now.words) (premise_of f) }
 {
     let y = index(f.event);
-    match End::try_from(f.kind) {
-        Ok(end) => end.meets(f.value, b.end(end, y)),
-        Err(_) => false,
-    }
+    End::try_from(f.kind).is_ok_and(|end| end.meets(f.value, b.end(end, y)))
 }
 
 // 15. Are the facts all true of the windows on the board?

@@ -5,12 +5,18 @@ use Rattle.model.specs.Job.{every}
 use Rattle.model.specs.Questions as model
 use Rattle.model.specs.Questions.{is_event}
 use Rattle.questions.specs.Numbers.{number_of}
+use Rattle.questions.specs.declared.Question.{Question}
 use Rattle.questions.specs.declared.Refusal.{Refusal}
 
 -- Passed, or refused with the question's number and the place.
 abbrev pub check_of : Result (Unit {0}) Refusal → model.Check
 check_of (Ok _) = model.pass
 check_of (Err r) = model.refuse (number_of r.question) r.place
+
+-- A question put, as a check: passed, whatever is answered then, or refused with place 0.
+abbrev pub put : {A : Type 0} → Result A Question → model.Check
+put (Ok _) = model.pass
+put (Err q) = model.refuse (number_of q) 0
 
 -- Of a set's members, member i is another than those before it.
 abbrev pub is_new : List ℤ → ℕ → Bool

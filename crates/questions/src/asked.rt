@@ -5,7 +5,7 @@ ghost use Rattle.model.specs.Job.{windows};
 ghost use Rattle.model.specs.Questions.{ask, each, refuse, horizon_right, limit_in_range, limits_right, stock_right, cover_right, times_right, heights_right, cage_right, lag_events, lag_differs, lag_in_range, limit_right, room_right, cage_questions, window_questions, lag_questions, first_questions, own_questions, questions, plan_questions};
 ghost use Rattle.tables.specs.Job.{reservoir_of, call};
 ghost use Rattle.questions.specs.Numbers.{number_of};
-ghost use Rattle.questions.specs.Asked.{check_of};
+ghost use Rattle.questions.specs.Asked.{check_of, put};
 
 use crate::asked_sets::set_questions;
 use crate::{LEAST_ROOM, MOST_ROOM, MOST_ROUNDS, Question, Refusal};
@@ -23,11 +23,11 @@ pub fn refuse(question: Question, place: usize) -> Result<(), Refusal>
     Err(Refusal { question, place })
 }
 
-// A question with place 0: is the answer yes?
-pub fn ask(question: Question, yes: bool) -> Result<(), Refusal>
-    ensures { check_of result ≡ ask (number_of question) yes }
+// A question put: is the answer yes? Where it refuses a call, the place is 0.
+pub fn ask(question: Question, yes: bool) -> Result<(), Question>
+    ensures { put result ≡ ask (number_of question) yes }
 {
-    if yes { Ok(()) } else { refuse(question, 0) }
+    yes.then_some(()).ok_or(question)
 }
 
 // A question to the first n cages, events, lags or sets in order, `right` telling the answer of each.
@@ -93,7 +93,7 @@ fn limits_right(c: Reservoir) -> bool
 fn stock_right(c: Reservoir) -> bool
     ensures { result ≡ stock_right (reservoir_of c) }
 {
-    c.low.0 <= c.initial.0 && c.initial.0 <= c.high.0
+    (c.low..=c.high).contains(&c.initial)
 }
 
 fn cover_right(c: Reservoir) -> bool
@@ -208,15 +208,15 @@ fn lag_questions(n: usize, lags: &[i32]) -> Result<(), Refusal>
 }
 
 // To the slip buffer's length.
-pub fn room_question(room: usize) -> Result<(), Refusal>
-    ensures { check_of result ≡ ask 11 (room_right room) }
+pub fn room_question(room: usize) -> Result<(), Question>
+    ensures { put result ≡ ask 11 (room_right room) }
 {
     ask(Question::Room, (LEAST_ROOM..=MOST_ROOM).contains(&room))
 }
 
 // To the round limit.
-fn limit_question(limit: i32) -> Result<(), Refusal>
-    ensures { check_of result ≡ ask 28 (limit_right limit) }
+fn limit_question(limit: i32) -> Result<(), Question>
+    ensures { put result ≡ ask 28 (limit_right limit) }
 {
     ask(Question::Rounds, (0..=MOST_ROUNDS).contains(&limit))
 }
@@ -258,7 +258,7 @@ pub fn questions(
     ensures { check_of result ≡ questions (call h.0 cages.now table.now lags.now sets.now) room }
 {
     own_questions(h, cages, table, lags, sets)?;
-    room_question(room)
+    Ok(room_question(room)?)
 }
 
 // The planner's: the round limit's comes after the lags' questions, before the sets'.
@@ -277,5 +277,5 @@ pub fn plan_questions(
     first_questions(h, cages, table, lags)?;
     limit_question(limit)?;
     set_questions(table.len() / 5, sets)?;
-    room_question(room)
+    Ok(room_question(room)?)
 }

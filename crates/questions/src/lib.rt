@@ -65,6 +65,15 @@ pub struct Refusal {
     pub place: usize,
 }
 
+// A question put to the call itself refuses with place 0.
+impl From<Question> for Refusal {
+    ghost from_gives = { λ q r. (r.question ≡ q) × (r.place ≡ 0) };
+
+    fn from(question: Question) -> Refusal {
+        Refusal { question, place: 0 }
+    }
+}
+
 // "refused", the question's number, the place.
 impl fmt::Display for Refusal {
     fn fmt<W: fmt::Write>(&self, f: &mut fmt::Formatter<W>) -> fmt::Result {

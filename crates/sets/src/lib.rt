@@ -66,13 +66,12 @@ pub fn begin(ws: &[i32], g: usize) -> usize
 pub fn sets(ws: &[i32]) -> usize
     ensures { (result ≡ begun ws.now 17) × (result ≤ 17) }
 {
-    let mut begun = 0;
     let mut at = 0;
     for k in 0..MOST_BEGUN {
-        if at < ws.len() {
-            begun = k + 1;
+        if at >= ws.len() {
+            return k;
         }
         at = after(ws, at);
     }
-    begun
+    MOST_BEGUN
 }

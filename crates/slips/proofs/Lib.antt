@@ -1,3 +1,4 @@
 pub mod Filling
 pub mod Wording
 pub mod Sizing
+pub mod Cutting

@@ -22,32 +22,33 @@ fn known_count(w: Word) -> Option<usize>
     between(w, 0, MOST_FACTS).then(|| index(w))
 }
 
-// 13. The slip at p and the place after it, if it is whole before the trailer, its rule known, 0 to 256 facts, length right.
-pub fn read_slip(list: &[i32], stop: usize, p: usize) -> Option<(Slip<'_>, usize)>
-    requires { (p ≤ stop) × (stop ≤ length list.now) }
-    ensures { (reading_of result ≡ reading list.now stop p) × Placed stop result }
+// 13. The slip at p and the place after it, if it is whole in the words before the trailer, its rule known, 0 to 256 facts, length right.
+pub fn read_slip(words: &[i32], p: usize) -> Option<(Slip<'_>, usize)>
+    requires { p ≤ length words.now }
+    ensures { (reading_of result ≡ reading words.now (length words.now) p) × Placed (length words.now) result }
 {
-    if stop - p <= HEAD_WORDS {
+    let left = words.len() - p;
+    if left <= HEAD_WORDS {
         return None;
     }
-    let rule = known_rule(word_at(list, p))?;
-    let count = known_count(word_at(list, p + 5))?;
+    let rule = known_rule(word_at(words, p))?;
+    let count = known_count(word_at(words, p + 5))?;
     let size = slip_length(count);
-    if stop - p < size {
+    if left < size {
         return None;
     }
     let last = p + size - 1;
-    if !word_is(word_at(list, last), size) {
+    if !word_is(word_at(words, last), size) {
         return None;
     }
     let slip = Slip {
         rule,
-        subject: word_at(list, p + 1),
-        target: word_at(list, p + 2),
-        kind: word_at(list, p + 3),
-        value: word_at(list, p + 4),
+        subject: word_at(words, p + 1),
+        target: word_at(words, p + 2),
+        kind: word_at(words, p + 3),
+        value: word_at(words, p + 4),
         facts: Facts {
-            words: &list[p + HEAD_WORDS..last],
+            words: &words[p + HEAD_WORDS..last],
         },
     };
     Some((slip, p + size))

@@ -1,11 +1,12 @@
 -- `checker::turns::take_slip` reads the slip at p, asks it and makes its narrowing. Assumes nothing.
-use Rattle.std.proofs.Common.{◌≡◌, refl, sym, ap, ◌∙◌, arith, None, Some}
+use Rattle.std.proofs.Common.{◌≡◌, refl, sym, ap, ◌∙◌, arith, None, Some, length}
 use Rattle.std.proofs.lemmas.Result.{err_from_is_err_and}
 use Rattle.model.specs.Reader.{is_conflict, applied}
+use Rattle.slips.specs.Slip.{explanation_of}
 use Rattle.tables.specs.Board.{board, table_of}
 use Rattle.judging.specs.Ready.{job_of}
 use Rattle.questions.specs.declared.Question.TheVariants.{Slip}
-use Rattle.checker.proofs.Turning.{asked_cut, slip_there, applies_is}
+use Rattle.checker.proofs.Turning.{asked_cut, slip_there, applies_is, no_bound}
 use Rattle.checker.proofs.turns.take_slip.Goals as goal
 
 pub returns-in_err-slip : goal.returns-in_err-slip
@@ -14,21 +15,23 @@ returns-in_err-slip c =
     let f : c.read_slip.result ≡ None = grind arith in
     let q : c.in_err-slip.field-0.0 ≡ Slip = grind arith in
     let p = err_from_is_err_and c.from_residual.result c.from_residual.ensures.1 in
-    rw (p.1, p.2, q) (asked_cut (job_of a.c.now) (board a.c.now.wide.now.words) (board a.b.now.words) a.list.now a.stop a.p a.left (rw f at c.read_slip.ensures.0))
+    rw (p.1, p.2, q) (asked_cut (job_of a.c.now) (board a.c.now.wide.now.words) (board a.b.now.words) a.slips.now (length a.slips.now) a.p a.left (rw f at c.read_slip.ensures.0))
 
-pub returns-in_err-slip_questions : goal.returns-in_err-slip_questions
-returns-in_err-slip_questions c =
+pub returns-in_err-named : goal.returns-in_err-named
+returns-in_err-named c =
     let a = c.args in
     let f : c.read_slip.result ≡ Some (c.in_ok-slip.slip, c.in_ok-slip.next) = grind arith in
-    let p = err_from_is_err_and c.from_residual-in_err-slip_questions.result c.from_residual-in_err-slip_questions.ensures.1 in
-    let t = slip_there (job_of a.c.now) (board a.c.now.wide.now.words) (board a.b.now.words) a.list.now a.stop a.p a.left c.in_ok-slip.slip (rw f at c.read_slip.ensures.0) in
-    rw (p.1, p.2) (sym t.0 ∙ sym c.in_err-slip_questions.ensures)
+    let p = err_from_is_err_and c.from_residual-in_err-named.result c.from_residual-in_err-named.ensures.1 in
+    let t = slip_there (job_of a.c.now) (board a.c.now.wide.now.words) (board a.b.now.words) a.slips.now (length a.slips.now) a.p a.left c.in_ok-slip.slip (rw f at c.read_slip.ensures.0) in
+    rw (p.1, p.2) (sym t.0 ∙ sym c.in_err-named.ensures.asked)
 
-pub apply-conflict-requires : goal.apply-conflict-requires
-apply-conflict-requires c =
+pub apply-requires : goal.apply-requires
+apply-requires c =
     let a = c.args in
-    let f : c.read_slip.result ≡ Some (c.in_ok-slip.slip, c.in_ok-slip.next) = grind arith in
-    applies_is a.c.now c.requires.0 c.in_ok-slip.slip a.left c.in_ok-slip_questions.ensures
+    let q = c.in_ok-named.ensures in
+    let e = rw (← q.named) at q.asked in
+    let t = applies_is a.c.now c.requires.0 c.in_ok-named.named a.left e in
+    omega (arith, t.event, t.few)
 
 pub returns : goal.returns
 returns c =
@@ -37,12 +40,15 @@ returns c =
     let table = a.c.now.table.now in
     let f : c.read_slip.result ≡ Some (c.in_ok-slip.slip, c.in_ok-slip.next) = grind arith in
     let s = rw f at c.read_slip.ensures.1 in
-    let t = slip_there (job_of a.c.now) (board a.c.now.wide.now.words) (board a.b.now.words) a.list.now a.stop a.p a.left c.in_ok-slip.slip (rw f at c.read_slip.ensures.0) in
-    let e = c.apply-conflict.ensures table in (
-      sym t.0 ∙ sym c.in_ok-slip_questions.ensures,
+    let t = slip_there (job_of a.c.now) (board a.c.now.wide.now.words) (board a.b.now.words) a.slips.now (length a.slips.now) a.p a.left c.in_ok-slip.slip (rw f at c.read_slip.ensures.0) in
+    let m = c.in_ok-named.named in
+    let q = c.in_ok-named.ensures in
+    let is = ap explanation_of q.named ∙ t.1 in
+    let h = applies_is a.c.now c.requires.0 m a.left (rw (← q.named) at q.asked) in (
+      sym t.0 ∙ sym q.asked,
       t.2,
       refl,
-      e.0 ∙ ap is_conflict t.1,
-      e.1 ∙ ap (applied (table_of n table a.b.now.words)) t.1,
+      no_bound m c.is_none.ensures ∙ ap is_conflict is,
+      c.apply.ensures n h table ∙ ap (applied (table_of n table a.b.now.words)) is,
       s,
     )

@@ -13,9 +13,9 @@ use Rattle.questions.specs.declared.Question.TheVariants.{Names}
 use Rattle.judging.proofs.Passing.{narrowed_range, narrowed_kinds, facts_fit}
 use Rattle.judging.proofs.giving.slip_questions.Goals as goal
 
-pub returns-in_err-s : goal.returns-in_err-s
+pub returns-in_err-s-clause-asked : goal.returns-in_err-s-clause-asked
 unfolding slip_questions
-returns-in_err-s c =
+returns-in_err-s-clause-asked c =
     let p = err_from_is_err_and c.from_residual.result c.from_residual.ensures.1 in
     let none : c.named.result ≡ None = grind arith in
     let is : c.in_err-s.field-0.0 ≡ Names = grind arith in
@@ -29,9 +29,9 @@ facts_true-requires c =
     let yes = rw some at c.named.ensures in
     facts_fit c.args.c.now c.requires.seated m (true_is yes.0)
 
-pub returns-in_err-ask : goal.returns-in_err-ask
+pub returns-in_err-ask-clause-asked : goal.returns-in_err-ask-clause-asked
 unfolding slip_questions
-returns-in_err-ask c =
+returns-in_err-ask-clause-asked c =
     let p = err_from_is_err_and c.from_residual-in_err-ask.result c.from_residual-in_err-ask.ensures.1 in
     let m = c.in_ok-s.s in
     let some : c.named.result ≡ Some m = grind arith in
@@ -54,9 +54,9 @@ facts_give-requires c =
       named = true_is yes.0;
     }
 
-pub returns-in_err-ask-2 : goal.returns-in_err-ask-2
+pub returns-in_err-ask-2-clause-asked : goal.returns-in_err-ask-2-clause-asked
 unfolding slip_questions
-returns-in_err-ask-2 c =
+returns-in_err-ask-2-clause-asked c =
     let p = err_from_is_err_and c.from_residual-in_err-ask-2.result c.from_residual-in_err-ask-2.ensures.1 in
     let m = c.in_ok-s.s in
     let some : c.named.result ≡ Some m = grind arith in
@@ -74,11 +74,21 @@ does_right-requires c =
     let few = p.seated.sane.few_events in
     omega arith
 
-pub returns : goal.returns
+pub returns-in_err-does_right-clause-asked : goal.returns-in_err-does_right-clause-asked
 unfolding slip_questions
-returns c =
+returns-in_err-does_right-clause-asked c =
+    let p = err_from_is_err_and c.from_residual-in_err-does_right.result c.from_residual-in_err-does_right.ensures.1 in
+    let m = c.in_ok-s.s in
+    let some : c.named.result ≡ Some m = grind arith in
+    let yes = rw some at c.named.ensures in
+    rw (p.1, p.2, ← yes.1, yes.0, ← rw c.facts_true.ensures at c.in_ok-ask.ensures, ← rw c.facts_give.ensures at c.in_ok-ask-2.ensures)
+    (c.in_err-does_right.ensures (explanation_of m.slip).premises)
+
+pub returns-clause-asked : goal.returns-clause-asked
+unfolding slip_questions
+returns-clause-asked c =
     let m = c.in_ok-s.s in
     let some : c.named.result ≡ Some m = grind arith in
     let yes = rw some at c.named.ensures in
     rw (← yes.1, yes.0, ← rw c.facts_true.ensures at c.in_ok-ask.ensures, ← rw c.facts_give.ensures at c.in_ok-ask-2.ensures)
-    (c.does_right.ensures (explanation_of m.slip).premises)
+    (c.in_ok-does_right.ensures (explanation_of m.slip).premises)
