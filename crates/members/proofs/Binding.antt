@@ -59,32 +59,32 @@ number_is false = refl
 -- ---- a call's set
 
 module _ (k : SetJob) where
-  pub set_adds : Adds k.sets.now k.at (board k.board.now.words) × (k.count ≡ count_at k.sets.now k.at)
+  pub set_adds : Adds k.set.table.now k.set.at (board k.board.now.words)
   set_adds =
       let p = k.placed in
-      (subst (λ at. Adds k.sets.now at (board k.board.now.words)) (sym p.begins) (adds_at p.sane k.held.ranged), p.size)
+      subst (λ at. Adds k.set.table.now at (board k.board.now.words)) (sym p.begins) (adds_at p.sane k.held.ranged)
 
   -- What is listed is an event of the job and a member.
-  pub listed_member : (i : ℕ) {y : ℕ} → i < k.count → y ≡ event_at k.sets.now k.at i → (y < k.events) × (is_member k.sets.now k.set y ≡ true)
+  pub listed_member : (i : ℕ) {y : ℕ} → i < count_at k.set.table.now k.set.at → y ≡ event_at k.set.table.now k.set.at i → (y < k.events) × (is_member k.set.table.now k.subject y ≡ true)
   listed_member i {y} l e =
       let p = k.placed in
-      let ws = k.sets.now in
-      let g = k.set in
-      let there : i < member_count ws g = rw (← p.begins) (omega (arith, p.size)) in
+      let ws = k.set.table.now in
+      let g = k.subject in
+      let there : i < member_count ws g = rw (← p.begins) (omega arith) in
       let y-is : y ≡ nat_abs (member_word ws g i) = rw (← p.begins) e in
       (rw y-is (p.sane.member_real i there), rw y-is (is_true (is_member ws g (nat_abs (member_word ws g i))) (any_in (member_count ws g) i (λ k. eqb (nat_abs (member_word ws g k)) (nat_abs (member_word ws g i))) there (eqb_refl (nat_abs (member_word ws g i))))))
 
   module _ {j : Call} (h : Of k j) where
-    pub member_is : (i : ℕ) {y : ℕ} → y ≡ event_at k.sets.now k.at i → y ≡ member j k.set i
+    pub member_is : (i : ℕ) {y : ℕ} → y ≡ event_at k.set.table.now k.set.at i → y ≡ member j k.subject i
     member_is i e = rw (h.sets_are, ← k.placed.begins) e
 
-    set_of : SetOf k.sets.now k.at j k.set
+    set_of : SetOf k.set.table.now k.set.at j k.subject
     set_of = record { sets_are = h.sets_are; begins = k.placed.begins; sane = rw h.events_are k.placed.sane }
 
-    in_set_is : (y : ℕ) → in_set j k.set y ≡ is_member k.sets.now k.set y
+    in_set_is : (y : ℕ) → in_set j k.subject y ≡ is_member k.set.table.now k.subject y
     in_set_is y = rw h.sets_are
 
-    set_there : (m : Bool) → k.set < subjects (rule (number m)) j
+    set_there : (m : Bool) → k.subject < subjects (rule (number m)) j
     set_there true = rw h.sets_are k.placed.there
     set_there false = rw h.sets_are k.placed.there
 
@@ -101,20 +101,20 @@ module _ (k : SetJob) where
   W = board k.board.now.words
 
   abbrev Tells : Bool → ℤ → Type 0
-  Tells m s = (j : Call) (g : ℕ) → SetOf k.sets.now k.at j g → Slack j g m W s
+  Tells m s = (j : Call) (g : ℕ) → SetOf k.set.table.now k.set.at j g → Slack j g m W s
 
-  gives : {j : Call} → Of k j → (m : Bool) {s : ℤ} → Tells m s → (y : ℕ) → y < k.events → is_member k.sets.now k.set y ≡ true → effect (own_end (total m)) W y (finding (total m) j W k.set y) ≡ does_by m W y s
+  gives : {j : Call} → Of k j → (m : Bool) {s : ℤ} → Tells m s → (y : ℕ) → y < k.events → is_member k.set.table.now k.subject y ≡ true → effect (own_end (total m)) W y (finding (total m) j W k.subject y) ≡ does_by m W y s
   gives {j} h m {s} t y l i =
-      ap (effect (own_end (total m)) W y) ((t j k.set (set_of k h)).gives y (rw h.events_are l) (true_is (in_set_is k h y ∙ i)))
+      ap (effect (own_end (total m)) W y) ((t j k.subject (set_of k h)).gives y (rw h.events_are l) (true_is (in_set_is k h y ∙ i)))
 
   pub spares_least : {s t r : ℤ} → Tells false s → Tells true t → (r ≤ℤ s) × (r ≤ℤ t) → Spares k r
   spares_least {s} {t} {r} f g l = record { still = λ j h m y p i e. go j h m y p i e }
     where
-      go : (j : Call) → Of k j → (m : Bool) (y : ℕ) → y < k.events → is_member k.sets.now k.set y ≡ true → spares r (W y h_min) (W y h_max) ≡ true → effect (own_end (total m)) W y (finding (total m) j W k.set y) ≡ idle
+      go : (j : Call) → Of k j → (m : Bool) (y : ℕ) → y < k.events → is_member k.set.table.now k.subject y ≡ true → spares r (W y h_min) (W y h_max) ≡ true → effect (own_end (total m)) W y (finding (total m) j W k.subject y) ≡ idle
       go j h false y p i e = gives h false f y p i ∙ spared false W y s (spares_more r s (W y h_min) (W y h_max) l.0 e)
       go j h true y p i e = gives h true g y p i ∙ spared true W y t (spares_more r t (W y h_min) (W y h_max) l.1 e)
 
-  pub does_of : {m : Bool} {y : ℕ} {s : ℤ} (x : Done) → y < k.events → is_member k.sets.now k.set y ≡ true → Tells m s → effect_of x ≡ does_by m W y s → Does k m y x
+  pub does_of : {m : Bool} {y : ℕ} {s : ℤ} (x : Done) → y < k.events → is_member k.set.table.now k.subject y ≡ true → Tells m s → effect_of x ≡ does_by m W y s → Does k m y x
   does_of {m} {y} {s} x l i t e =
       record {
         target = l;
@@ -147,8 +147,8 @@ module _ (k : SetJob) {j : Call} (h : Of k j) where
   table_agree = rw h.events_are (agree k.events j.window_table k.board.now.words)
 
   -- A call's rule does on its windows what it does on the board.
-  pub does_there : {m : Bool} {y : ℕ} {x : Done} → Does k m y x → effect (own_end (rule (number m))) U y (finding (rule (number m)) j U k.set y) ≡ effect_of x
-  does_there {m} {y} d = outcome_agree j U (board k.board.now.words) table_agree m k.set y (rw h.events_are d.target) ∙ d.is j h
+  pub does_there : {m : Bool} {y : ℕ} {x : Done} → Does k m y x → effect (own_end (rule (number m))) U y (finding (rule (number m)) j U k.subject y) ≡ effect_of x
+  does_there {m} {y} d = outcome_agree j U (board k.board.now.words) table_agree m k.subject y (rw h.events_are d.target) ∙ d.is j h
 
 -- ---- its slip
 
@@ -160,9 +160,9 @@ amount_within true h_max v w = w
 amount_within false h_min v w = record { most = omega arith; least = omega arith }
 amount_within false h_max v w = record { most = omega arith; least = omega arith }
 
-module _ (k : SetJob) {m : Bool} {y : ℕ} {x : Done} {s : List ℤ} {c : Citing} (does : Does k m y x) (alone : Alone k k.count s) (cites : TotalCites m y (effect_of x) c) where
+module _ (k : SetJob) {m : Bool} {y : ℕ} {x : Done} {s : List ℤ} {c : Citing} (does : Does k m y x) (alone : Alone k (count_at k.set.table.now k.set.at) s) (cites : TotalCites m y (effect_of x) c) where
   -- It can be written.
-  pub writes : Writes k.events (board s) c k.set y
+  pub writes : Writes k.events (board s) c k.subject y
   writes =
       record {
         ranged = record {
@@ -175,53 +175,57 @@ module _ (k : SetJob) {m : Bool} {y : ℕ} {x : Done} {s : List ℤ} {c : Citing
       }
 
   module _ (j : Call) (h : Of k j) where
-    shows : Shows (events j) (in_set j k.set) (board k.board.now.words) (board s)
+    shows : Shows (events j) (in_set j k.subject) (board k.board.now.words) (board s)
     shows =
         let small : (z : ℕ) → z < events j → z < 64 = λ z l. omega (arith, k.held.ranged.few, h.events_are) in
         rw h.sets_are
         (record {
-          low = λ z l. alone.is z (small z l) h_min ∙ rw (k.placed.size, k.placed.begins);
-          high = λ z l. alone.is z (small z l) h_max ∙ rw (k.placed.size, k.placed.begins);
+          low = λ z l. alone.is z (small z l) h_min ∙ rw k.placed.begins;
+          high = λ z l. alone.is z (small z l) h_max ∙ rw k.placed.begins;
         })
 
     -- Its facts are the definitions'.
-    premises_are : premise_list k.events (cites_of c (board s)) (says_of c (board s)) ≡ premise_list (events j) (quotes (rule (number m)) j (board k.board.now.words) k.set y (effect_of x)) (quoted (rule (number m)) j (board k.board.now.words) k.set y (effect_of x))
+    premises_are : premise_list k.events (cites_of c (board s)) (says_of c (board s)) ≡ premise_list (events j) (quotes (rule (number m)) j (board k.board.now.words) k.subject y (effect_of x)) (quoted (rule (number m)) j (board k.board.now.words) k.subject y (effect_of x))
     premises_are =
         ap (λ i. premise_list i (cites_of c (board s)) (says_of c (board s))) (sym h.events_are)
-        ∙ rw (rule_is m) (set_premises j k.set (board k.board.now.words) (board s) cites shows (in_set_is k h y ∙ does.member))
+        ∙ rw (rule_is m) (set_premises j k.subject (board k.board.now.words) (board s) cites shows (in_set_is k h y ∙ does.member))
 
-    slip_is : slip_of k.events (board s) c (total m) k.set y x ≡ explanation (number m) j (windows (table_of k.events j.window_table k.board.now.words)) k.set y (effect_of x)
+    slip_is : slip_of k.events (board s) c (total m) k.subject y x ≡ explanation (number m) j (windows (table_of k.events j.window_table k.board.now.words)) k.subject y (effect_of x)
     slip_is =
         let W = windows (table_of k.events j.window_table k.board.now.words) in
-        let here : slip_of k.events (board s) c (total m) k.set y x ≡ explanation (number m) j (board k.board.now.words) k.set y (effect_of x) = rw (premises_are, number_is m, rule_is m) in
-        here ∙ explanation_agree j (board k.board.now.words) W (agree_sym (events j) W (board k.board.now.words) (table_agree k h)) (number m) k.set y (effect_of x) (set_there k h m)
+        let here : slip_of k.events (board s) c (total m) k.subject y x ≡ explanation (number m) j (board k.board.now.words) k.subject y (effect_of x) = rw (premises_are, number_is m, rule_is m) in
+        here ∙ explanation_agree j (board k.board.now.words) W (agree_sym (events j) W (board k.board.now.words) (table_agree k h)) (number m) k.subject y (effect_of x) (set_there k h m)
 
   -- Entered, and the new end stored.
-  module _ {l l' : Log} {b' : List ℤ} {t : Bool} (entered : Entered (slip_of k.events (board s) c (total m) k.set y x) (status_after (effect_of x)) l l') (told : t ≡ written (status_of l'.status)) (put : b' ≡ cond t (stored (own_end (total m)) y (effect_of x) k.board.now.words) k.board.now.words) where
+  module _ {l l' : Log} {b' : List ℤ} {t : Bool} (entered : Entered (slip_of k.events (board s) c (total m) k.subject y x) (status_after (effect_of x)) l l') (told : t ≡ written (status_of l'.status)) (put : b' ≡ cond t (stored (own_end (total m)) y (effect_of x) k.board.now.words) k.board.now.words) where
     pub act_held : Held k.events b'
     act_held = entered_held (number m) k.held does.target does.narrower does.range entered told (rw (rule_is m) put)
 
-    pub act_moved : {k' : SetJob} → is_idle (effect_of x) ≡ false → k'.board.now.words ≡ b' → fixed k' ≡ fixed k → Moved (λ j. acted (room l) (number m) j k.set y (effect_of x)) k l k' l'
+    pub act_moved : {k' : SetJob} → is_idle (effect_of x) ≡ false → k'.board.now.words ≡ b' → fixed k' ≡ fixed k → Moved (λ j. acted (room l) (number m) j k.subject y (effect_of x)) k l k' l'
     act_moved busy same stays =
         record { leads = rw same (act_leads (number m) k.held does.target does.narrower does.range entered told (rw (rule_is m) put) busy slip_is); stays = stays }
 
 -- ---- in turn
 
-module _ {x y : GName × ℕ × List ℤ × ℕ × ℕ × ℕ} (e : x ≡ y) where
+module _ {x y : GName × ℕ × List ℤ × ℕ × ℕ} (e : x ≡ y) where
   pub lent_is : x.0 ≡ y.0
-  lent_is = ap (λ (x : GName × ℕ × List ℤ × ℕ × ℕ × ℕ). x.0) e
+  lent_is = ap (λ (x : GName × ℕ × List ℤ × ℕ × ℕ). x.0) e
 
   pub events_are : x.1 ≡ y.1
-  events_are = ap (λ (x : GName × ℕ × List ℤ × ℕ × ℕ × ℕ). x.1) e
+  events_are = ap (λ (x : GName × ℕ × List ℤ × ℕ × ℕ). x.1) e
 
   pub sets_are : x.2 ≡ y.2
-  sets_are = ap (λ (x : GName × ℕ × List ℤ × ℕ × ℕ × ℕ). x.2) e
+  sets_are = ap (λ (x : GName × ℕ × List ℤ × ℕ × ℕ). x.2) e
 
-  pub set_is : x.3 ≡ y.3
-  set_is = ap (λ (x : GName × ℕ × List ℤ × ℕ × ℕ × ℕ). x.3) e
+  pub place_is : x.3 ≡ y.3
+  place_is = ap (λ (x : GName × ℕ × List ℤ × ℕ × ℕ). x.3) e
 
-  pub count_is : x.5 ≡ y.5
-  count_is = ap (λ (x : GName × ℕ × List ℤ × ℕ × ℕ × ℕ). x.5) e
+  pub subject_is : x.4 ≡ y.4
+  subject_is = ap (λ (x : GName × ℕ × List ℤ × ℕ × ℕ). x.4) e
+
+-- A place below the number of its members is so still.
+pub here : (k k' : SetJob) {n i : ℕ} → fixed k' ≡ fixed k → n ≡ count_at k.set.table.now k.set.at → i < n → i < count_at k'.set.table.now k'.set.at
+here k k' e size l = rw (sets_are e, place_is e, ← size) l
 
 -- Attempts that do nothing on the board do nothing to the set.
 pub swept_rest : (todo : Call → List Attempt) {k k' : SetJob} {l : Log} → fixed k' ≡ fixed k → k'.board.now.words ≡ k.board.now.words → Leads k.events (Of k) (λ j. made (room l) j (todo j)) k.board.now.words l k.board.now.words l → Swept todo k l k' l
@@ -246,19 +250,19 @@ module _ {k : SetJob} {l : Log} {k₁ : SetJob} {l₁ : Log} {k₂ : SetJob} {l�
       record { leads = leads_on f i m.leads (λ j q. q) (rw (events_are m.stays, sets_are m.stays) at o.leads); stays = o.stays ∙ m.stays }
 
 -- Both attempts of a member, in turn.
-pub both_swept : {k : SetJob} {l : Log} {k₁ : SetJob} {l₁ : Log} {k₂ : SetJob} {l₂ : Log} (y : ℕ) → Swept (λ j. try 17 k.set y ∷ []) k l k₁ l₁ → Swept (λ j. try 18 k₁.set y ∷ []) k₁ l₁ k₂ l₂ → Swept (λ j. both_attempts k.set y) k l k₂ l₂
+pub both_swept : {k : SetJob} {l : Log} {k₁ : SetJob} {l₁ : Log} {k₂ : SetJob} {l₂ : Log} (y : ℕ) → Swept (λ j. try 17 k.subject y ∷ []) k l k₁ l₁ → Swept (λ j. try 18 k₁.subject y ∷ []) k₁ l₁ k₂ l₂ → Swept (λ j. both_attempts k.subject y) k l k₂ l₂
 both_swept {k} {k₁ = k₁} {l₁} {k₂} {l₂} y m o =
-    swept_both (λ j. try 17 k.set y ∷ []) (λ j. try 18 k.set y ∷ []) m (subst (λ g. Swept (λ j. try 18 g y ∷ []) k₁ l₁ k₂ l₂) (set_is m.stays) o)
+    swept_both (λ j. try 17 k.subject y ∷ []) (λ j. try 18 k.subject y ∷ []) m (subst (λ g. Swept (λ j. try 18 g y ∷ []) k₁ l₁ k₂ l₂) (subject_is m.stays) o)
 
 -- As listed.
-pub member_swept : {k k' : SetJob} {l l' : Log} (g i : ℕ) {y : ℕ} → k.set ≡ g → y ≡ event_at k.sets.now k.at i → Swept (λ j. both_attempts k.set y) k l k' l' → Swept (λ j. both_attempts g (member j g i)) k l k' l'
+pub member_swept : {k k' : SetJob} {l l' : Log} (g i : ℕ) {y : ℕ} → k.subject ≡ g → y ≡ event_at k.set.table.now k.set.at i → Swept (λ j. both_attempts k.subject y) k l k' l' → Swept (λ j. both_attempts g (member j g i)) k l k' l'
 member_swept {k} {l = l} g i q e m =
-    record { leads = leads_as (λ j h s. ap (λ xs. made (room l) j xs s) (rw (← q) (ap (both_attempts k.set) (member_is k h i e)))) m.leads; stays = m.stays }
+    record { leads = leads_as (λ j h s. ap (λ xs. made (room l) j xs s) (rw (← q) (ap (both_attempts k.subject) (member_is k h i e)))) m.leads; stays = m.stays }
 
 -- A member that the slack spares: both its attempts are as if made.
-pub spared_passed : (k : SetJob) (l : Log) {k' : SetJob} {y : ℕ} {s : ℤ} → fixed k' ≡ fixed k → k'.board.now.words ≡ k.board.now.words → Spares k s → y < k.events → is_member k.sets.now k.set y ≡ true → spares s (board k.board.now.words y h_min) (board k.board.now.words y h_max) ≡ true → Swept (λ j. both_attempts k.set y) k l k' l
+pub spared_passed : (k : SetJob) (l : Log) {k' : SetJob} {y : ℕ} {s : ℤ} → fixed k' ≡ fixed k → k'.board.now.words ≡ k.board.now.words → Spares k s → y < k.events → is_member k.set.table.now k.subject y ≡ true → spares s (board k.board.now.words y h_min) (board k.board.now.words y h_max) ≡ true → Swept (λ j. both_attempts k.subject y) k l k' l
 spared_passed k l {y = y} stays same sp m i e =
-    swept_rest (λ j. both_attempts k.set y) stays same (leads_none (λ j q. made_still (room l) j (state_of k.events j.window_table k.board.now.words l) (both_attempts k.set y) (one j q false, (one j q true, tt))))
+    swept_rest (λ j. both_attempts k.subject y) stays same (leads_none (λ j q. made_still (room l) j (state_of k.events j.window_table k.board.now.words l) (both_attempts k.subject y) (one j q false, (one j q true, tt))))
   where
-    one : (j : Call) → Of k j → (m : Bool) → Idle (rule (number m)) j (windows (table_of k.events j.window_table k.board.now.words)) k.set y
-    one j q n = outcome_agree j (windows (table_of k.events j.window_table k.board.now.words)) (board k.board.now.words) (table_agree k q) n k.set y (rw q.events_are m) ∙ rw (rule_is n) (sp.still j q n y m i e)
+    one : (j : Call) → Of k j → (m : Bool) → Idle (rule (number m)) j (windows (table_of k.events j.window_table k.board.now.words)) k.subject y
+    one j q n = outcome_agree j (windows (table_of k.events j.window_table k.board.now.words)) (board k.board.now.words) (table_agree k q) n k.subject y (rw q.events_are m) ∙ rw (rule_is n) (sp.still j q n y m i e)

@@ -84,7 +84,7 @@ module _ (k : SetJob) where
   b = k.board.now.words
 
   abbrev event : ℕ → ℕ
-  event i = event_at k.sets.now k.at i
+  event i = event_at k.set.table.now k.set.at i
 
   pub alone_none : {s : List ℤ} → Blank s → Alone k 0 s
   unfolding any

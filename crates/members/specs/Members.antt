@@ -26,11 +26,11 @@ pub record Binds (n : ℕ) (ws : List ℤ) (j : Call) : Type 0 where
 
 -- The calls that the set at hand is of.
 abbrev pub Of : SetJob → Call → Type 0
-Of k = Binds k.events k.sets.now
+Of k = Binds k.events k.set.table.now
 
 -- What stays of the set at hand: where the board is, the set words, the numbers.
-abbrev pub fixed : SetJob → GName × ℕ × List ℤ × ℕ × ℕ × ℕ
-fixed k = (k.board.ghost_name, k.events, k.sets.now, k.set, k.at, k.count)
+abbrev pub fixed : SetJob → GName × ℕ × List ℤ × ℕ × ℕ
+fixed k = (k.board.ghost_name, k.events, k.set.table.now, k.set.at, k.subject)
 
 -- What was done to the state is f of every call that the set is of.
 pub record Moved (f : Call → State → State) (k : SetJob) (l : Log) (k' : SetJob) (l' : Log) : Type 0 where
@@ -70,7 +70,7 @@ amount own h_max v = cond own v (pos 0)
 -- The board s has, of the amounts on the job's board, those of the first i members of the set, and no other number.
 pub record Alone (k : SetJob) (i : ℕ) (s : List ℤ) : Type 0 where
   pub whole : Whole s
-  pub is : (z : ℕ) → z < 64 → (e : End) → board s z e ≡ amount (any i (λ l. eqb (event_at k.sets.now k.at l) z)) e (board k.board.now.words z e)
+  pub is : (z : ℕ) → z < 64 → (e : End) → board s z e ≡ amount (any i (λ l. eqb (event_at k.set.table.now k.set.at l) z)) e (board k.board.now.words z e)
 
 -- Event y's amounts of the board b stored on s.
 unfoldable pub shown_event : List ℤ → ℕ → List ℤ → List ℤ
@@ -81,12 +81,12 @@ shown_event b y s = set (set s (64 * word h_min + y) (board b y h_min)) (64 * wo
 -- x is what rule 17, in the mirror 18, of the set does to the window of its member y; a new end narrows it, and is in its range.
 pub record Does (k : SetJob) (m : Bool) (y : ℕ) (x : Done) : Type 0 where
   pub target : y < k.events
-  pub member : is_member k.sets.now k.set y ≡ true
-  pub is : (j : Call) → Of k j → effect (own_end (rule (number m))) (board k.board.now.words) y (finding (rule (number m)) j (board k.board.now.words) k.set y) ≡ effect_of x
+  pub member : is_member k.set.table.now k.subject y ≡ true
+  pub is : (j : Call) → Of k j → effect (own_end (rule (number m))) (board k.board.now.words) y (finding (rule (number m)) j (board k.board.now.words) k.subject y) ≡ effect_of x
   pub narrower : (w : ℤ) → effect_of x ≡ narrows w → Narrower (board k.board.now.words) y (own_end (rule (number m))) w
   pub range : (w : ℤ) → effect_of x ≡ narrows w → Within w (span (own_end (rule (number m))))
 
 -- Rules 17 and 18 of the set leave a member as it is whose amounts the slack s spares.
 pub record Spares (k : SetJob) (s : ℤ) : Type 0 where
-  pub still : (j : Call) → Of k j → (m : Bool) (y : ℕ) → y < k.events → is_member k.sets.now k.set y ≡ true → spares s (board k.board.now.words y h_min) (board k.board.now.words y h_max) ≡ true
-      → effect (own_end (total m)) (board k.board.now.words) y (finding (total m) j (board k.board.now.words) k.set y) ≡ idle
+  pub still : (j : Call) → Of k j → (m : Bool) (y : ℕ) → y < k.events → is_member k.set.table.now k.subject y ≡ true → spares s (board k.board.now.words y h_min) (board k.board.now.words y h_max) ≡ true
+      → effect (own_end (total m)) (board k.board.now.words) y (finding (total m) j (board k.board.now.words) k.subject y) ≡ idle

@@ -6,17 +6,16 @@ pub mod sweeps; // sweeps.rt: the attempts of a set, of all sets
 ghost use Rattle.rounds.specs.Held.{Held};
 ghost use Rattle.members.specs.Placed.{Placed};
 
+use sets::Set;
 use tables::Board;
 
-// A set of a job at hand: the board of the job's events, the set words, the set's number, its first word, how many members it has.
+// A set of a job at hand: the board of the job's events, the set, and its number, the subject of its rules.
 #[derive(Drop)]
 pub struct SetJob<'a> {
     pub board: &'a mut Board,
     pub events: usize,
-    pub sets: &'a [i32],
-    pub set: usize,
-    pub at: usize,
-    pub count: usize,
+    pub set: Set<'a>,
+    pub subject: usize,
     pub ghost held: { Held events board.now.words },
-    pub ghost placed: { Placed events sets.now set at count },
+    pub ghost placed: { Placed events set.table.now subject set.at },
 }

@@ -4,6 +4,7 @@ ghost use Rattle.model.specs.Agenda.{try, set_attempts};
 ghost use Rattle.model.specs.Rounds.{acted, made};
 ghost use Rattle.tables.specs.Board.{board};
 ghost use Rattle.rules.specs.Values.{effect_of, is_idle};
+ghost use Rattle.sets.specs.Sets.{count_at};
 ghost use Rattle.rounds.specs.Held.{Held};
 ghost use Rattle.rounds.specs.State.{room, Leads};
 ghost use Rattle.members.specs.Placed.{SaneSets, is_member};
@@ -14,7 +15,7 @@ use facts::premises::total_citing;
 use rounds::Log;
 use rounds::attempts::store_if;
 use rules::{Effect, Rule};
-use sets::{after, count, sets as begun};
+use sets::{Set, sets as begun};
 use silence::slack::is_spared;
 use slips::Header;
 use slips::writing::Quoting;
@@ -34,10 +35,10 @@ impl SetJob<'_> {
     // The amounts of its members alone: the board that the facts of its slips are read off.
     fn show(&self, s: &mut Board)
         requires { Blank s.old.words }
-        ensures { Alone self.now self.now.count s.new.words }
+        ensures { Alone self.now (count_at self.now.set.table.now self.now.set.at) s.new.words }
     {
-        for i in 0..self.count {
-            show_event(self.board, member(self.sets, self.at, i), s);
+        for i in 0..self.set.count() {
+            show_event(self.board, member(self.set, i), s);
         }
     }
 
@@ -46,7 +47,7 @@ impl SetJob<'_> {
     // A narrowing or a conflict of rule 17, in the mirror 18, with target y: its slip is entered, then the new end is stored.
     fn act(&mut self, mirror: bool, y: usize, x: Effect, log: &mut Log<'_>)
         requires { Does self.old mirror y x × (is_idle (effect_of x) ≡ false) }
-        ensures { Moved (λ j. acted (room log.old) (number mirror) j self.old.set y (effect_of x)) self.old log.old self.new log.new }
+        ensures { Moved (λ j. acted (room log.old) (number mirror) j self.old.subject y (effect_of x)) self.old log.old self.new log.new }
     {
         let mut s = Board::blank();
         self.show(&mut s);
@@ -58,23 +59,23 @@ impl SetJob<'_> {
         let rule = Rule::Total { mirror };
         let header = Header {
             rule,
-            subject: self.set,
+            subject: self.subject,
             target: y,
             effect: x,
         };
         log.enter(header, &facts);
-        store_if(self.board, log.is_written(), rule, y, x);
+        store_if(self.board, log.is_written(), header);
     }
 
     // One attempt of it; none once the call has ended. The frame is that of a cage job's attempt: what is read, cited and shown differs in each step, so that a trait of the steps would be longer than both.
     fn attempt(&mut self, mirror: bool, y: usize, log: &mut Log<'_>)
-        requires { (y < self.old.events) × (is_member self.old.sets.now self.old.set y ≡ true) }
-        ensures { Swept (λ j. try (number mirror) self.old.set y ∷ []) self.old log.old self.new log.new }
+        requires { (y < self.old.events) × (is_member self.old.set.table.now self.old.subject y ≡ true) }
+        ensures { Swept (λ j. try (number mirror) self.old.subject y ∷ []) self.old log.old self.new log.new }
     {
         if !log.is_running() {
             return;
         }
-        let s = slack(self.board, self.sets, self.at, self.count, mirror);
+        let s = slack(self.board, self.set, mirror);
         let x = total_effect(self.board, mirror, y, s);
         if x.is_idle() {
             return;
@@ -86,8 +87,8 @@ impl SetJob<'_> {
 
     // Rules 17 and 18 for the member y: what the first moves the second reads.
     fn both_rules(&mut self, y: usize, log: &mut Log<'_>)
-        requires { (y < self.old.events) × (is_member self.old.sets.now self.old.set y ≡ true) }
-        ensures { Swept (λ j. both_attempts self.old.set y) self.old log.old self.new log.new }
+        requires { (y < self.old.events) × (is_member self.old.set.table.now self.old.subject y ≡ true) }
+        ensures { Swept (λ j. both_attempts self.old.subject y) self.old log.old self.new log.new }
     {
         self.attempt(false, y, log);
         self.attempt(true, y, log);
@@ -97,18 +98,18 @@ impl SetJob<'_> {
     fn least_slack(&self) -> Height
         ensures { Spares self.now result.0 }
     {
-        let low = slack(self.board, self.sets, self.at, self.count, false);
-        let high = slack(self.board, self.sets, self.at, self.count, true);
+        let low = slack(self.board, self.set, false);
+        let high = slack(self.board, self.set, true);
         low.min(high)
     }
 
     // Its members as listed. Its slack is added up once, and again after a member that it does not spare.
     fn set_rules(&mut self, log: &mut Log<'_>)
-        ensures { Swept (λ j. set_attempts j self.old.set) self.old log.old self.new log.new }
+        ensures { Swept (λ j. set_attempts j self.old.subject) self.old log.old self.new log.new }
     {
         let mut s = self.least_slack();
-        for i in 0..self.count {
-            let y = member(self.sets, self.at, i);
+        for i in 0..self.set.count() {
+            let y = member(self.set, i);
             if !is_spared(self.board, y, s) {
                 self.both_rules(y, log);
                 s = self.least_slack();
@@ -125,18 +126,18 @@ pub fn all_sets(board: &mut Board, events: usize, sets: &[i32], log: &mut Log<'_
     ensures { Leads events (Binds events sets.now) (λ j. made (room log.old) j (sets_attempts j)) board.old.words log.old board.new.words log.new
         × Held events board.new.words }
 {
-    let mut at: usize = 0;
-    for set in 0..begun(sets) {
-        let count = count(sets, at);
+    let mut set = Set {
+        table: sets,
+        at: 0,
+    };
+    for subject in 0..begun(sets) {
         let mut job = SetJob {
             board: &mut *board,
             events,
-            sets,
             set,
-            at,
-            count,
+            subject,
         };
         job.set_rules(log);
-        at = after(sets, at);
+        set = set.next();
     }
 }

@@ -6,13 +6,13 @@ ghost use Rattle.questions.specs.Asked.{check_of, is_new, member_right};
 
 use crate::asked::{each, is_event};
 use crate::{Question, Refusal};
-use sets::{LEAST_TOTAL, MOST_TOTAL, begin, members, sets, word};
+use sets::{LEAST_TOTAL, MOST_TOTAL, Set, sets};
 
 // Is set g one of the first 16, and whole?
 fn set_whole(ws: &[i32], g: usize) -> bool
     ensures { result ≡ set_whole ws.now g }
 {
-    g < 16 && begin(ws, g + 1) <= ws.len()
+    g < 16 && Set::of_table(ws, g + 1).at <= ws.len()
 }
 
 // Is member i of a set another than those before it?
@@ -36,7 +36,7 @@ fn members_right(n: usize, ws: &[i32], g: usize) -> bool
     requires { (n ≤ 64) × T (set_whole ws.now g) }
     ensures { result ≡ members_right n ws.now g }
 {
-    let members = members(ws, begin(ws, g));
+    let members = Set::of_table(ws, g).members();
     !members.is_empty() && all_right(n, members)
 }
 
@@ -51,9 +51,9 @@ fn totals_right(ws: &[i32], g: usize) -> bool
     requires { g ≤ 17 }
     ensures { result ≡ totals_right ws.now g }
 {
-    let at = begin(ws, g);
-    let least = word(ws, at, 0);
-    let most = word(ws, at, 1);
+    let set = Set::of_table(ws, g);
+    let least = set.word(0);
+    let most = set.word(1);
     total_in_range(least) && total_in_range(most) && least <= most
 }
 

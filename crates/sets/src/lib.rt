@@ -13,52 +13,65 @@ pub const MOST_TOTAL: i32 = 639936;
 
 pub const LEAST_TOTAL: i32 = -639936;
 
-// ---- a set by its table and the place of its first word; callers keep the place beside other numbers, so a struct of the two would be made anew at each call
-
-// Word i of the set that begins at `at`; 0 past the table's end.
-pub fn word(ws: &[i32], at: usize, i: usize) -> i32
-    ensures { result ≡ word_at ws.now at i }
-{
-    ws.get(at.saturating_add(i)).copied().unwrap_or(0)
+// A set of a table, by the place of its first word.
+#[derive(Clone, Copy)]
+pub struct Set<'a> {
+    pub table: &'a [i32],
+    pub at: usize,
 }
 
-// How many members the set that begins at `at` has; a count under 0 says none.
-pub fn count(ws: &[i32], at: usize) -> usize
-    ensures { (result ≡ count_at ws.now at) × (result < 2147483648) }
-{
-    usize::try_from(word(ws, at, 2)).unwrap_or(0)
-}
-
-// The members of the set that begins at `at`, where the table has them all.
-pub fn members(ws: &[i32], at: usize) -> &[i32]
-    requires { at + 3 + count_at ws.now at ≤ length ws.now }
-    ensures { result.now ≡ take (count_at ws.now at) (drop (at + 3) ws.now) }
-{
-    let first = at + 3;
-    &ws[first..first + count(ws, at)]
-}
-
-// Where the set after it begins.
-pub fn after(ws: &[i32], at: usize) -> usize
-    requires { at < 1000000000000 }
-    ensures { (result ≡ at + 3 + count_at ws.now at) × (result < at + 2147483651) }
-{
-    at + 3 + count(ws, at)
-}
-
-// ---- sets
-
-// Where set g begins.
-#[tactic(auto, unfolding(model::specs::Job::set_begin))]
-pub fn begin(ws: &[i32], g: usize) -> usize
-    requires { g ≤ 17 }
-    ensures { (result ≡ set_begin ws.now g) × (result < 100000000000) }
-{
-    let mut at = 0;
-    for _k in 0..g {
-        at = after(ws, at);
+impl<'a> Set<'a> {
+    // Word i; 0 past the table's end.
+    pub fn word(self, i: usize) -> i32
+        ensures { result ≡ word_at self.entry.table.now self.entry.at i }
+    {
+        let at = self.at.saturating_add(i);
+        self.table.get(at).copied().unwrap_or(0)
     }
-    at
+
+    // How many members it has; a count under 0 says none.
+    pub fn count(self) -> usize
+        ensures { (result ≡ count_at self.entry.table.now self.entry.at) × (result < 2147483648) }
+    {
+        usize::try_from(self.word(2)).unwrap_or(0)
+    }
+
+    // Its members, where the table has them all.
+    pub fn members(self) -> &'a [i32]
+        requires { self.at + 3 + count_at self.table.now self.at ≤ length self.table.now }
+        ensures { result.now ≡ take (count_at self.entry.table.now self.entry.at) (drop (self.entry.at + 3) self.entry.table.now) }
+    {
+        let first = self.at + 3;
+        &self.table[first..first + self.count()]
+    }
+
+    // The set after it.
+    pub fn next(self) -> Set<'a>
+        requires { self.at < 1000000000000 }
+        ensures { (result.table.now ≡ self.entry.table.now)
+            × (result.at ≡ self.entry.at + 3 + count_at self.entry.table.now self.entry.at)
+            × (result.at < self.entry.at + 2147483651) }
+    {
+        Set {
+            at: self.at + 3 + self.count(),
+            ..self
+        }
+    }
+
+    // Set g of a table.
+    #[tactic(auto, unfolding(model::specs::Job::set_begin))]
+    pub fn of_table(table: &'a [i32], g: usize) -> Set<'a>
+        requires { g ≤ 17 }
+        ensures { (result.table.now ≡ table.now)
+            × (result.at ≡ set_begin table.now g)
+            × (result.at < 100000000000) }
+    {
+        let mut set = Set { table, at: 0 };
+        for _k in 0..g {
+            set = set.next();
+        }
+        set
+    }
 }
 
 // How many sets begin, of the first 17.
@@ -66,12 +79,12 @@ pub fn begin(ws: &[i32], g: usize) -> usize
 pub fn sets(ws: &[i32]) -> usize
     ensures { (result ≡ begun ws.now 17) × (result ≤ 17) }
 {
-    let mut at = 0;
+    let mut set = Set { table: ws, at: 0 };
     for k in 0..MOST_BEGUN {
-        if at >= ws.len() {
+        if set.at >= ws.len() {
             return k;
         }
-        at = after(ws, at);
+        set = set.next();
     }
     MOST_BEGUN
 }

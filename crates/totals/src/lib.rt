@@ -12,58 +12,58 @@ ghost use Rattle.sets.specs.Sets.{word_at, member_at, count_at};
 ghost use Rattle.totals.specs.Totals.{event_at, limit_at, total_at, Listed, Adds, SetOf, bound_by, does_by, Slack};
 
 use levels::levels::added;
-use levels::places::{side_h_max, side_height};
+use levels::places::{side_h_max, side_height, side_limit};
 use rules::effects::bound_effect;
 use rules::{Effect, Finding, Rule};
+use sets::Set;
 use tables::{Board, Height};
 
 // ---- a set of the table
 
-// Member i of the set that begins at `at`, an event.
-pub fn member(sets: &[i32], at: usize, i: usize) -> usize
-    requires { (at + (3 + i) < length sets.now) × (pos 0 ≤ℤ member_at sets.now at i) }
-    ensures { result ≡ event_at sets.now at i }
+// Member i of a set, an event.
+pub fn member(set: Set, i: usize) -> usize
+    requires { (set.at + (3 + i) < length set.table.now) × (pos 0 ≤ℤ member_at set.table.now set.at i) }
+    ensures { result ≡ event_at set.entry.table.now set.entry.at i }
 {
-    sets[at + (3 + i)] as usize
+    set.table[set.at + (3 + i)] as usize
 }
 
 // Is y among its members?
-pub fn is_member(sets: &[i32], at: usize, count: usize, y: usize) -> bool
-    requires { Listed sets.now at × (count ≡ count_at sets.now at) }
-    ensures { result ≡ any (count_at sets.now at) (λ i. eqb (event_at sets.now at i) y) }
+pub fn is_member(set: Set, y: usize) -> bool
+    requires { Listed set.table.now set.at }
+    ensures { result
+        ≡ any (count_at set.entry.table.now set.entry.at) (λ i. eqb (event_at set.entry.table.now set.entry.at i) y) }
 {
-    (0..count).any(|k| member(sets, at, k) == y)
+    (0..set.count()).any(|k| member(set, k) == y)
 }
 
-// The limit that the sum of its members must reach on a side: the least total, in the mirror the most negated.
-fn limit(sets: &[i32], at: usize, mirror: bool) -> Height
-    requires { (at + 3 ≤ length sets.now) × Within (word_at sets.now at 1) 639936 }
-    ensures { result.0 ≡ limit_at mirror sets.now at }
+// The limit that the sum of its members must reach on a side: of the least total and the most.
+fn limit(set: Set, mirror: bool) -> Height
+    requires { Within (word_at set.table.now set.at 1) 639936 }
+    ensures { result.0 ≡ limit_at mirror set.entry.table.now set.entry.at }
 {
-    if mirror {
-        -Height(sets[at + 1])
-    } else {
-        Height(sets[at])
-    }
+    side_limit(mirror, Height(set.word(0)), Height(set.word(1)))
 }
 
 // Its members' h_max on a side, added up.
-fn total(b: &Board, sets: &[i32], at: usize, count: usize, mirror: bool) -> Height
-    requires { Adds sets.now at (board b.now.words) × (count ≡ count_at sets.now at) }
-    ensures { result.0 ≡ total_at mirror sets.now at (board b.now.words) × Within result.0 639936 }
+fn total(b: &Board, set: Set, mirror: bool) -> Height
+    requires { Adds set.table.now set.at (board b.now.words) }
+    ensures { result.0 ≡ total_at mirror set.entry.table.now set.entry.at (board b.now.words) × Within result.0 639936 }
 {
-    added(count, Height::ZERO, |i| {
-        side_h_max(b, mirror, member(sets, at, i))
+    added(set.count(), Height::ZERO, |i| {
+        side_h_max(b, mirror, member(set, i))
     })
 }
 
 // What is left over the limit.
-pub fn slack(b: &Board, sets: &[i32], at: usize, count: usize, mirror: bool) -> Height
-    requires { Adds sets.now at (board b.now.words) × (count ≡ count_at sets.now at) }
-    ensures { ((j : Call) (g : ℕ) → SetOf sets.now at j g → Slack j g mirror (board b.now.words) result.0)
+pub fn slack(b: &Board, set: Set, mirror: bool) -> Height
+    requires { Adds set.table.now set.at (board b.now.words) }
+    ensures { ((j : Call) (g : ℕ) →
+        SetOf set.entry.table.now set.entry.at j g →
+        Slack j g mirror (board b.now.words) result.0)
         × Within result.0 1279872 }
 {
-    total(b, sets, at, count, mirror) - limit(sets, at, mirror)
+    total(b, set, mirror) - limit(set, mirror)
 }
 
 // ---- a member of a set with this slack
@@ -87,26 +87,18 @@ pub fn total_effect(b: &Board, mirror: bool, y: usize, slack: Height) -> Effect
 
 // ---- at once
 
-// What rule 17, in the mirror 18, gives for the member y of the set that begins at `at`.
-pub fn total_finding(
-    b: &Board,
-    sets: &[i32],
-    at: usize,
-    count: usize,
-    mirror: bool,
-    y: usize,
-) -> Finding
-    requires { Adds sets.now at (board b.now.words)
-        × (count ≡ count_at sets.now at)
+// What rule 17, in the mirror 18, gives for the member y of a set.
+pub fn total_finding(b: &Board, set: Set, mirror: bool, y: usize) -> Finding
+    requires { Adds set.table.now set.at (board b.now.words)
         × (y < 64)
         × Within (board b.now.words y h_min) 9999
         × Within (board b.now.words y h_max) 9999 }
     ensures { (j : Call) (g : ℕ) →
-        SetOf sets.now at j g →
+        SetOf set.entry.table.now set.entry.at j g →
         y < events j →
         T (in_set j g y) →
         finding_of result ≡ finding (total mirror) j (board b.now.words) g y }
 {
-    let s = slack(b, sets, at, count, mirror);
+    let s = slack(b, set, mirror);
     Finding::Bound(total_bound(b, mirror, y, s).into())
 }

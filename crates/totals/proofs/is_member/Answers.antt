@@ -10,7 +10,8 @@ use Rattle.totals.proofs.is_member.Goals as goal
 pub returns : goal.returns
 returns c =
     let a = c.args in
-    let is_y : ℕ → Bool = λ k. eqb (event_at a.sets.now a.at k) a.y in
-    any_from_yields_List is_y _ _ c.any.result c.any.ensures.ran (YieldsList-from_range 0 a.count a.count refl (omega arith)) (λ x b q k. search (rules, tests))
-    ∙ any_listed is_y a.count
-    ∙ ap (λ n. any n is_y) c.requires.1
+    let n = c.count.result in
+    let is_y : ℕ → Bool = λ k. eqb (event_at a.set.table.now a.set.at k) a.y in
+    any_from_yields_List is_y _ _ c.any.result c.any.ensures.ran (YieldsList-from_range 0 n n refl (omega arith)) (λ x b q k. search (rules, tests))
+    ∙ any_listed is_y n
+    ∙ ap (λ n. any n is_y) c.count.ensures.0

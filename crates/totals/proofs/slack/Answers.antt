@@ -13,6 +13,6 @@ returns c =
     let t = c.total.ensures in
     let l = c.limit.ensures in
     let d = c.sub.ensures in (
-      λ j g o. slackens a.mirror j g W (slack_is a.mirror a.sets.now a.at W t.0 l d) o,
-      apart d t.1 (wider {l = 639936} l (limit_within a.mirror c.requires.0) (omega arith)) (omega arith),
+      λ j g o. slackens a.mirror j g W (slack_is a.mirror a.set.table.now a.set.at W t.0 l d) o,
+      apart d t.1 (wider {l = 639936} l (limit_within a.mirror c.requires) (omega arith)) (omega arith),
     )

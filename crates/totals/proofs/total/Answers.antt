@@ -21,7 +21,7 @@ pub returns : goal.returns
 returns c =
     let a = c.args in
     let W = board a.b.now.words in
-    let f : ℕ → ℤ = λ i. side a.mirror W (event_at a.sets.now a.at i) h_max in
+    let f : ℕ → ℤ = λ i. side a.mirror W (event_at a.set.table.now a.set.at i) h_max in
     let s = c.added.ensures f (λ i l h p. search (rules, of_calls)) in
-    let here : c.added.result.0 ≡ total_at a.mirror a.sets.now a.at W = let e = c.requires.1 in rw (← e) (s ∙ zero_left _) in
-    (here, wider here (part_within c.requires.0 a.mirror (count_at a.sets.now a.at) (omega arith)) (omega arith))
+    let here : c.added.result.0 ≡ total_at a.mirror a.set.table.now a.set.at W = let e = c.count.ensures.0 in rw (← e) (s ∙ zero_left _) in
+    (here, wider here (part_within c.requires a.mirror (count_at a.set.table.now a.set.at) (omega arith)) (omega arith))

@@ -11,7 +11,7 @@ use Rattle.members.proofs.SetJob.attempt.Goals as goal
 pub returns-then-not-is_running : goal.returns-then-not-is_running
 returns-then-not-is_running c =
     let a = c.args in
-    let g = a.self.now.set in
+    let g = a.self.now.subject in
     swept_rest (λ j. try (number a.mirror) g a.y ∷ []) refl refl (attempt_off (number a.mirror) g a.y c.is_running.ensures (ap not c.if-not-is_running.true))
 
 pub slack-s-requires : goal.slack-s-requires
@@ -22,8 +22,8 @@ returns-then-is_idle c =
     let a = c.args in
     let k = a.self.now in
     let does = does_of k c.total_effect-x.result c.requires.0 c.requires.1 c.slack-s.ensures.0 c.total_effect-x.ensures in
-    swept_rest (λ j. try (number a.mirror) k.set a.y ∷ []) refl refl
-    (attempt_idle (number a.mirror) k.set a.y c.is_running.ensures (ap not c.if-not-is_running.false) (λ j q. does_there k q does) c.is_idle.ensures c.if-is_idle.true)
+    swept_rest (λ j. try (number a.mirror) k.subject a.y ∷ []) refl refl
+    (attempt_idle (number a.mirror) k.subject a.y c.is_running.ensures (ap not c.if-not-is_running.false) (λ j q. does_there k q does) c.is_idle.ensures c.if-is_idle.true)
 
 pub act-requires : goal.act-requires
 act-requires c =
@@ -36,6 +36,6 @@ returns c =
     let does = does_of k c.total_effect-x.result c.requires.0 c.requires.1 c.slack-s.ensures.0 c.total_effect-x.ensures in
     let m = moved_from {k = k} refl refl c.act.ensures in
     record {
-      leads = attempt_acts (number a.mirror) k.set a.y c.is_running.ensures (ap not c.if-not-is_running.false) (λ j q. does_there k q does) m.leads;
+      leads = attempt_acts (number a.mirror) k.subject a.y c.is_running.ensures (ap not c.if-not-is_running.false) (λ j q. does_there k q does) m.leads;
       stays = m.stays;
     }

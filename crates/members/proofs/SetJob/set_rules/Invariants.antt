@@ -5,4 +5,4 @@ use Rattle.members.specs.Members.{Swept, both_attempts, Spares}
 use Rattle.members.proofs.SetJob.set_rules.Given as goal
 
 abbrev pub invariant-loop-i : goal.invariant-loop-i
-invariant-loop-i l = Swept (λ j. each_of (λ i. both_attempts l.initial.self.set (member j l.initial.self.set i)) 0 l.i) l.initial.self l.initial.log l.self l.log × Spares l.self l.s.0
+invariant-loop-i l = Swept (λ j. each_of (λ i. both_attempts l.initial.self.subject (member j l.initial.self.subject i)) 0 l.i) l.initial.self l.initial.log l.self l.log × Spares l.self l.s.0

@@ -10,20 +10,22 @@ loop-i-init c = alone_none c.args.self.now c.requires
 
 pub member-requires : goal.member-requires
 member-requires c =
-    let a = (set_adds c.args.self.now).0.listed in
-    let size = c.args.self.now.placed.size in
+    let a = (set_adds c.args.self.now).listed in
+    let size = c.count-i-end.ensures.0 in
     (omega (arith, a.inside), a.sign c.loop-i.i (omega arith))
 
 pub show_event-requires : goal.show_event-requires
 show_event-requires c =
     let a = set_adds c.args.self.now in
-    rw c.member.ensures (a.0.real c.loop-i.i (omega (arith, a.1)))
+    let size = c.count-i-end.ensures.0 in
+    rw c.member.ensures (a.real c.loop-i.i (omega arith))
 
 pub loop-i-preserved : goal.loop-i-preserved
 loop-i-preserved c =
     let k = c.args.self.now in
     let a = set_adds k in
     let i = c.loop-i.i in
-    let l : i < count_at k.sets.now k.at = omega (arith, a.1) in
+    let size = c.count-i-end.ensures.0 in
+    let l : i < count_at k.set.table.now k.set.at = omega arith in
     let e = c.member.ensures in
-    alone_more k i (rw e (a.0.real i l)) e c.loop-i.invariant c.show_event.ensures
+    alone_more k i (rw e (a.real i l)) e c.loop-i.invariant c.show_event.ensures
