@@ -19,9 +19,8 @@ use cages::Home;
 use questions::Question;
 use questions::asked::ask;
 use rules::effects::{bound_effect, finding_effect};
-use rules::findings::finding;
-use rules::{Finding, Rule};
-use sets::{begin, count};
+use rules::{Attempt, Finding, Rule};
+use sets::Set;
 use slips::Slip;
 use tables::{Board, Job, Word, cage_of};
 use totals::total_finding;
@@ -59,8 +58,15 @@ fn rule_gives(b: &Board, lags: &[i32], k: Job, s: &Named) -> bool
         (fs : List Premise) →
         result ≡ gives j (board b.now.words) (headed s.now.slip fs) }
 {
-    let f = finding(b, lags, k, s.slip.rule, s.subject, s.target);
-    concludes(b, s, f)
+    let attempt = Attempt {
+        board: b,
+        lags,
+        job: k,
+        rule: s.slip.rule,
+        subject: s.subject,
+        target: s.target,
+    };
+    concludes(b, s, attempt.finding())
 }
 
 // 16. The same for rules 17 and 18, of a set and its member. They read no cage.
@@ -71,9 +77,8 @@ fn set_gives(b: &Board, sets: &[i32], mirror: bool, s: &Named) -> bool
         (fs : List Premise) →
         result ≡ gives j (board b.now.words) (headed s.now.slip fs) }
 {
-    let at = begin(sets, s.subject);
-    let f = total_finding(b, sets, at, count(sets, at), mirror, s.target);
-    concludes(b, s, f)
+    let set = Set::of_table(sets, s.subject);
+    concludes(b, s, total_finding(b, set, mirror, s.target))
 }
 
 // 16. The same for a rule at an event, in its cage: the events of other cages are seen as neutral. Where the job has one cage, nothing is masked.

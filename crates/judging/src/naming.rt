@@ -12,7 +12,7 @@ use crate::premises::facts_fit;
 use crate::{Call, Named};
 use rules::lags::Lag;
 use rules::{Family, Rule};
-use sets::{begin, count, sets as begun};
+use sets::{Set, sets as begun};
 use slips::Slip;
 use slips::words::{index, is_event, word_is};
 use tables::Word;
@@ -55,8 +55,7 @@ fn in_set(sets: &[i32], g: usize, y: usize) -> bool
     requires { (g ≤ 16) × Listed sets.now (set_begin sets.now g) }
     ensures { result ≡ any (member_count sets.now g) (λ i. eqb (nat_abs (member_word sets.now g i)) y) }
 {
-    let at = begin(sets, g);
-    is_member(sets, at, count(sets, at), y)
+    is_member(Set::of_table(sets, g), y)
 }
 
 // Does the target fit the rule: a, b, or e; any event in 5, 8, 11, 14; a member in 17 and 18?

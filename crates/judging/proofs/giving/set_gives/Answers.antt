@@ -13,5 +13,6 @@ returns c =
     let p = c.requires in
     let W = board a.b.now.words in
     λ j h fs.
-    let set : SetOf a.sets.now c.begin-at.result j s.subject = record { sets_are = h.sets_are; begins = c.begin-at.ensures.0; sane = h.sane } in
-    gives_by j W s fs (c.total_finding-f.ensures j s.subject set h.event h.member ∙ ap (λ ρ. finding ρ j W s.subject s.target) (sym p.rule_is)) c.concludes.ensures
+    let here = c.of_table-set.ensures in
+    let set : SetOf c.of_table-set.result.table.now c.of_table-set.result.at j s.subject = rw here.0 (record { sets_are = h.sets_are; begins = here.1; sane = h.sane }) in
+    gives_by j W s fs (c.total_finding.ensures j s.subject set h.event h.member ∙ ap (λ ρ. finding ρ j W s.subject s.target) (sym p.rule_is)) c.concludes.ensures
