@@ -86,12 +86,8 @@ fn home_gives(b: &Board, c: &Call, s: &Named) -> bool
     requires { AtHome c.now (board b.now.words) s.now }
     ensures { (fs : List Premise) → result ≡ gives (job_of c.now) (board b.now.words) (headed s.now.slip fs) }
 {
-    let own = Job::of_cage(
-        c.job.horizon,
-        c.cages,
-        cage_of(c.table, s.subject),
-        c.job.events,
-    );
+    let cage = cage_of(c.table, s.subject);
+    let own = Job::of_cage(c.job.horizon, c.cages, cage, c.job.events);
     if c.cages.len() == 4 {
         return rule_gives(b, c.lags, own, s);
     }

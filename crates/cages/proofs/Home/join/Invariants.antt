@@ -1,4 +1,4 @@
--- `cages::Home::join`: of the first y events those of e's cage are put back. Assumes nothing.
+-- `cages::Home::join`: of the first y events those of the subject's cage are put back. Assumes nothing.
 use Rattle.cages.proofs.Masking.{JoinedTo}
 use Rattle.cages.proofs.Home.join.Given as goal
 

@@ -8,7 +8,7 @@ rule_gives-requires c =
     let a = c.args in
     let p = c.requires in
     let W = board a.b.now.words in
-    let home = (rw c.cage_of.ensures at c.of_cage-own.ensures) in
+    let home = (rw c.cage_of-cage.ensures at c.of_cage-own.ensures) in
     tries_own a.c.now W W a.s.now p c.of_cage-own.result home (none_masked a.c.now p.seated c.if-c-eq4.true a.s.now.subject p.event W)
 
 pub returns-then-c-eq4 : goal.returns-then-c-eq4
@@ -16,17 +16,17 @@ returns-then-c-eq4 c =
     let a = c.args in
     let p = c.requires in
     let W = board a.b.now.words in
-    let home = (rw c.cage_of.ensures at c.of_cage-own.ensures) in
+    let home = (rw c.cage_of-cage.ensures at c.of_cage-own.ensures) in
     gives_home a.c.now W W a.s.now p c.of_cage-own.result home (none_masked a.c.now p.seated c.if-c-eq4.true a.s.now.subject p.event W) c.rule_gives.ensures
 
 pub rule_gives-requires-2 : goal.rule_gives-requires-2
 rule_gives-requires-2 c =
     let a = c.args in
-    let home = (rw c.cage_of.ensures at c.of_cage-own.ensures) in
+    let home = (rw c.cage_of-cage.ensures at c.of_cage-own.ensures) in
     tries_own a.c.now (board a.b.now.words) (board c.mask.new.s.words) a.s.now c.requires c.of_cage-own.result home c.mask.ensures.is
 
 pub returns : goal.returns
 returns c =
     let a = c.args in
-    let home = (rw c.cage_of.ensures at c.of_cage-own.ensures) in
+    let home = (rw c.cage_of-cage.ensures at c.of_cage-own.ensures) in
     gives_home a.c.now (board a.b.now.words) (board c.mask.new.s.words) a.s.now c.requires c.of_cage-own.result home c.mask.ensures.is c.rule_gives-2.ensures
