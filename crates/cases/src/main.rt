@@ -8,7 +8,7 @@ ghost use Rattle.std.specs.Prelude.{◌≤◌, length};
 use checker::check;
 use questions::Refusal;
 use reservoir::plan_and_read;
-use scanner::Scan;
+use scanner::{Scan, Scanner};
 use std::alloc::Global;
 use std::fmt::Display;
 use std::io;
@@ -157,14 +157,15 @@ fn read_case(alloc: Global, out: &mut impl Write, case: Case<'_>) -> io::Result<
     line(out, "list", case.list)
 }
 
-// One case. The scanner fills a lent table and says how many numbers stand there: so the two stand side by side.
+// One case.
 fn run_case(alloc: Global, out: &mut impl Write, text: &[u8]) -> io::Result<()> {
-    let mut numbers = [0i32; MOST_NUMBERS];
-    let scan = scanner::feed(scanner::start(), text, &mut numbers);
-    let Scan::Between(n) = scan else {
+    let mut table = [0i32; MOST_NUMBERS];
+    let mut scanner = Scanner::new(&mut table);
+    scanner.feed(text);
+    let Scan::Between(n) = scanner.scan else {
         return writeln!(out, "not a case");
     };
-    let Some(case) = numbers.get(..n).and_then(case_of) else {
+    let Some(case) = scanner.table.get(..n).and_then(case_of) else {
         return writeln!(out, "not a case");
     };
     match case.called {
