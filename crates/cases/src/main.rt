@@ -20,7 +20,7 @@ const MOST_BYTES: u64 = 65536;
 // A case has no more numbers.
 const MOST_NUMBERS: usize = 1030;
 
-// Who is called: the planner by 1, else the reader.
+// Who is called: the planner by 1, else the reader. `sweep` has its own, which refuses another number: a crate under both for an enum of two is no plainer.
 #[derive(Clone, Copy)]
 enum Called {
     Planner,

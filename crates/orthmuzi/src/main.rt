@@ -12,7 +12,7 @@ ghost use Rattle.tables.specs.Job.{call};
 ghost use Rattle.propagator.specs.Plans.{reply_of};
 ghost use Rattle.scanner.specs.Scanning.{state_of, finished};
 ghost use Rattle.scanner.specs.Layout.{job_in, Room};
-ghost use Rattle.printer.specs.Buffer.{Printed};
+ghost use Rattle.printer.specs.Buffer.{HoldsReply, Printed};
 ghost use Rattle.orthmuzi.specs.Hearing.{TookNext, HeardAll, Wrote};
 
 use propagator::Answer;
@@ -25,7 +25,7 @@ use std::ops::ControlFlow;
 
 // A reply as text.
 fn report(reply: Result<Answer, Refusal>, windows: &[i32], out: &mut [u8]) -> usize
-    requires { (length windows.now ≤ 320) × (8192 ≤ length out.old) }
+    requires { (length windows.now ≤ 320) × HoldsReply out.old }
     ensures { Printed out.new result (printed (reply_of reply) windows.now) }
 {
     match reply {
@@ -37,27 +37,9 @@ fn report(reply: Result<Answer, Refusal>, windows: &[i32], out: &mut [u8]) -> us
     }
 }
 
-// A job, word table by word table as `plan` takes it, planned with a round limit in a slip room of 16,000 words, and its answer put into `out`.
-fn planned(
-    h: i32,
-    cages: &[i32],
-    windows: &mut [i32],
-    lags: &[i32],
-    sets: &[i32],
-    limit: i32,
-    out: &mut [u8],
-) -> usize
-    requires { (length windows.old ≤ 320) × (8192 ≤ length out.old) }
-    ensures { Printed out.new result (answered (parsed (call h cages.now windows.old lags.now sets.now, limit))) }
-{
-    let mut room = [0i32; 16000];
-    let a = plan(h, cages, windows, lags, sets, limit, &mut room);
-    report(a, windows, out)
-}
-
-// The job of these sizes at the start of the table planned, its windows in `space`.
+// The job of these sizes at the start of the table planned, its windows in `space`, with its round limit and a slip room of 16,000 words.
 fn table_planned(s: Sizes, table: &[i32], space: &mut [i32], out: &mut [u8]) -> usize
-    requires { Room s table.now × (320 ≤ length space.old) × (8192 ≤ length out.old) }
+    requires { Room s table.now × (320 ≤ length space.old) × HoldsReply out.old }
     ensures { Printed out.new result (answered (parsed (job_in table.now s, s.limit))) }
 {
     let windows_at = 4 + 4 * s.cages;
@@ -65,20 +47,22 @@ fn table_planned(s: Sizes, table: &[i32], space: &mut [i32], out: &mut [u8]) -> 
     let sets_at = lags_at + 3 * s.lags + 1;
     let windows = &mut space[..5 * s.events];
     windows.copy_from_slice(&table[windows_at..lags_at]);
-    planned(
+    let mut room = [0i32; 16000];
+    let reply = plan(
         table[0],
         &table[2..][..4 * s.cages],
         windows,
         &table[lags_at..][..3 * s.lags],
         &table[sets_at..][..s.words],
         s.limit,
-        out,
-    )
+        &mut room,
+    );
+    report(reply, windows, out)
 }
 
 // The end of the text: what the program prints, put into `out`.
 fn answer(mut scanner: Scanner<'_>, out: &mut [u8]) -> usize
-    requires { 8192 ≤ length out.old }
+    requires { HoldsReply out.old }
     ensures { Printed out.new result (answered (finished (state_of scanner.entry))) }
 {
     let Some(sizes) = scanner.finish() else {
