@@ -8,7 +8,6 @@ ghost use Rattle.std.specs.Io.KnownBytes.{Appends};
 ghost use Rattle.model.specs.Text.{parsed};
 ghost use Rattle.model.specs.Print.{printed};
 ghost use Rattle.model.specs.Program.{answered, Told};
-ghost use Rattle.tables.specs.Job.{call};
 ghost use Rattle.propagator.specs.Plans.{reply_of};
 ghost use Rattle.scanner.specs.Scanning.{state_of, finished};
 ghost use Rattle.scanner.specs.Layout.{job_in, Room};
