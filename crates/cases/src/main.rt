@@ -8,7 +8,7 @@ ghost use Rattle.std.specs.Prelude.{◌≤◌, length};
 use checker::check;
 use questions::Refusal;
 use reservoir::plan_and_read;
-use scanner::Scan;
+use scanner::{Scan, Scanner};
 use std::alloc::Global;
 use std::fmt::Display;
 use std::io;
@@ -20,7 +20,7 @@ const MOST_BYTES: u64 = 65536;
 // A case has no more numbers.
 const MOST_NUMBERS: usize = 1030;
 
-// Who is called: the planner by 1, else the reader.
+// Who is called: the planner by 1, else the reader. `sweep` has its own, which refuses another number: a crate under both for an enum of two is no plainer.
 #[derive(Clone, Copy)]
 enum Called {
     Planner,
@@ -157,14 +157,15 @@ fn read_case(alloc: Global, out: &mut impl Write, case: Case<'_>) -> io::Result<
     line(out, "list", case.list)
 }
 
-// One case. The scanner fills a lent table and says how many numbers stand there: so the two stand side by side.
+// One case.
 fn run_case(alloc: Global, out: &mut impl Write, text: &[u8]) -> io::Result<()> {
-    let mut numbers = [0i32; MOST_NUMBERS];
-    let scan = scanner::feed(scanner::start(), text, &mut numbers);
-    let Scan::Between(n) = scan else {
+    let mut table = [0i32; MOST_NUMBERS];
+    let mut scanner = Scanner::new(&mut table);
+    scanner.feed(text);
+    let Scan::Between(n) = scanner.scan else {
         return writeln!(out, "not a case");
     };
-    let Some(case) = numbers.get(..n).and_then(case_of) else {
+    let Some(case) = scanner.table.get(..n).and_then(case_of) else {
         return writeln!(out, "not a case");
     };
     match case.called {

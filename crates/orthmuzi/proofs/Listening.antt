@@ -8,9 +8,11 @@ use borrow.Author.Tests.{ltb-false}
 use Rattle.integers.proofs.Tests.{true_is}
 use Rattle.model.specs.Text.{Parsed, parsed, malformed, on, job_text}
 use Rattle.model.specs.Program.{Piece, gave, failed, text_of, Ended, came_to_end, broke_off, went_on}
+use Rattle.std.specs.ControlFlow.{break_value}
+use Rattle.std.specs.Option.{is_some}
+use Rattle.std.specs.declared.ops.ControlFlow.{ControlFlow}
 use Rattle.std.specs.declared.ops.ControlFlow.TheVariants.{Continue, Break}
-use Rattle.scanner.specs.Scanner.{State, state, step, fed, finished, taken, goes_on}
-use Rattle.scanner.specs.declared.scan.Scan.{Scan}
+use Rattle.scanner.specs.Scanning.{State, state, step, fed, finished, taken, goes_on}
 use Rattle.scanner.specs.declared.scan.Scan.TheVariants.{Between, Malformed}
 use Rattle.std.proofs.lemmas.List.Sums.{fold-append}
 use Rattle.scanner.proofs.Reading.{reads}
@@ -55,21 +57,23 @@ whole_end before after pieces text c a e =
 -- ---- turns
 
 -- After so many turns of the loop.
-pub record Going (before : Option (List ℕ)) (fresh : List ℤ) (after : Option (List ℕ)) (s : Scan) (t : List ℤ) (turns : ℕ) : Type 0 where
+pub record Going (before after : Option (List ℕ)) (s : State) (turns : ℕ) : Type 0 where
+  fresh : List ℤ
+  long : 2198 ≤ length fresh
   pieces : List Piece
   text : List ℕ
   came : Came pieces text
   many : length pieces ≡ turns
   left : Consumes before after text
-  is : state s t ≡ fed (state (Between 0) fresh) text
+  is : s ≡ fed (state (Between 0) fresh) text
 
-pub going_start : (before : Option (List ℕ)) (fresh : List ℤ) {s : Scan} → s ≡ Between 0 → Going before fresh before s fresh 0
-going_start before fresh e =
-    record { pieces = []; text = []; came = nothing; many = refl; left = Consumes-nil before; is = ap (λ (x : Scan). state x fresh) e }
+pub going_start : (before : Option (List ℕ)) {fresh : List ℤ} {s : State} → 2198 ≤ length fresh → s ≡ state (Between 0) fresh → Going before before s 0
+going_start before {fresh} l e =
+    record { fresh = fresh; long = l; pieces = []; text = []; came = nothing; many = refl; left = Consumes-nil before; is = e }
 
-module _ {before : Option (List ℕ)} {fresh : List ℤ} {after : Option (List ℕ)} {s : Scan} {t : List ℤ} {turns : ℕ} (g : Going before fresh after s t turns) where
+module _ {before after : Option (List ℕ)} {s : State} {turns : ℕ} (g : Going before after s turns) where
   -- All turns are used up.
-  pub going_over : 2 ^ 64 - 1 ≤ turns → HeardAll before Malformed t
+  pub going_over : 2 ^ 64 - 1 ≤ turns → HeardAll before (state Malformed s.table)
   unfolding text_of
   going_over e =
       let never : text_of g.pieces ≡ malformed = ap text_of (sym (append-nil g.pieces)) ∙ came_text g.came [] in
@@ -83,26 +87,29 @@ module _ {before : Option (List ℕ)} {fresh : List ℤ} {after : Option (List �
         whole = whole_never before g.pieces never;
       }
 
-  module _ (later : Option (List ℕ)) {r : Scan} {u : List ℤ} where
-    further : (p : Piece) → goes_on p ≡ true → Gives after later p → state r u ≡ taken (state s t) p → Going before fresh later r u (turns + 1)
+  module _ (later : Option (List ℕ)) {s' : State} where
+    further : (p : Piece) → goes_on p ≡ true → Gives after later p → s' ≡ taken s p → Going before later s' (turns + 1)
     further failed m v e = absurd (true_is m)
     further (gave []) m v e = absurd (true_is m)
     further (gave (b ∷ bytes)) m v e =
         record {
+          fresh = g.fresh;
+          long = g.long;
           pieces = g.pieces ++ (gave (b ∷ bytes) ∷ []);
           text = g.text ++ (b ∷ bytes);
           came = more b bytes g.came;
           many = omega (arith, g.many, length-append g.pieces (gave (b ∷ bytes) ∷ []));
           left = Consumes-trans before after later g.text (b ∷ bytes) g.left v.0;
-          is = e ∙ ap (λ (x : State). fed x (b ∷ bytes)) g.is ∙ sym (fold-append step (state (Between 0) fresh) g.text (b ∷ bytes));
+          is = e ∙ ap (λ (x : State). fed x (b ∷ bytes)) g.is ∙ sym (fold-append step (state (Between 0) g.fresh) g.text (b ∷ bytes));
         }
 
-    pub going_on : TookNext after later s t (Continue r) u → Going before fresh later r u (turns + 1)
-    going_on k = further k.took.piece (sym k.took.more) k.gives k.took.scan
+    pub going_on : (r : ControlFlow (Unit {0}) (Unit {0})) → is_some (break_value r) ≡ false → TookNext after later s r s' → Going before later s' (turns + 1)
+    going_on (Continue _) m k = further k.took.piece (sym k.took.more) k.gives k.took.scan
+    going_on (Break _) m k = absurd (true_is (sym m))
 
-    last : 2198 ≤ length fresh → (p : Piece) → goes_on p ≡ false → Gives after later p → state r u ≡ taken (state s t) p → HeardAll before r u
+    last : (p : Piece) → goes_on p ≡ false → Gives after later p → s' ≡ taken s p → HeardAll before s'
     unfolding text_of
-    last l failed m v e =
+    last failed m v e =
         let never : text_of (g.pieces ++ (failed ∷ [])) ≡ malformed = came_text g.came (failed ∷ []) in
         record {
           heard =
@@ -113,7 +120,7 @@ module _ {before : Option (List ℕ)} {fresh : List ℤ} {after : Option (List �
               };
           whole = whole_never before (g.pieces ++ (failed ∷ [])) never;
         }
-    last l (gave []) m v e =
+    last (gave []) m v e =
         let ends : text_of (g.pieces ++ (gave [] ∷ [])) ≡ parsed (g.text ++ []) = came_text g.came (gave [] ∷ []) in
         record {
           heard =
@@ -122,13 +129,14 @@ module _ {before : Option (List ℕ)} {fresh : List ℤ} {after : Option (List �
                 all = inl (came_ended g.came came_to_end);
                 says =
                     ap finished (e ∙ g.is)
-                    ∙ reads fresh g.text l
+                    ∙ reads g.fresh g.text g.long
                     ∙ ap job_text (sym (append-nil g.text))
                     ∙ ap (λ (p : Parsed (List ℕ)). on p job_text) (sym ends);
               };
           whole = whole_end before later (g.pieces ++ (gave [] ∷ [])) (g.text ++ []) (Consumes-trans before after later g.text [] g.left v.0) (v.1 refl) ends;
         }
-    last l (gave (b ∷ bytes)) m v e = absurd (omega (arith, ltb-false 0 (length (b ∷ bytes)) m))
+    last (gave (b ∷ bytes)) m v e = absurd (omega (arith, ltb-false 0 (length (b ∷ bytes)) m))
 
-    pub going_end : 2198 ≤ length fresh → TookNext after later s t (Break r) u → HeardAll before r u
-    going_end l k = last l k.took.piece (sym k.took.more) k.gives k.took.scan
+    pub going_end : (r : ControlFlow (Unit {0}) (Unit {0})) → is_some (break_value r) ≡ true → TookNext after later s r s' → HeardAll before s'
+    going_end (Continue _) m k = absurd (true_is m)
+    going_end (Break _) m k = last k.took.piece (sym k.took.more) k.gives k.took.scan

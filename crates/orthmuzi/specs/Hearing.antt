@@ -1,23 +1,22 @@
 -- What the program's reading of standard input comes to, whatever `read` gives.
-use Rattle.std.specs.Prelude.{◌≡◌, List, [], ◌⊎◌, ℕ, ◌-◌, ◌^◌, ◌≤◌, ℤ, length, Option, IfSome}
+use Rattle.std.specs.Prelude.{◌≡◌, List, [], ◌⊎◌, ℕ, ◌-◌, ◌^◌, ◌≤◌, length, Option, IfSome}
 use Rattle.std.specs.Io.KnownBytes.{Consumes, Keeps, Appends, IsAtEnd}
 use Rattle.model.specs.Text.{parsed, on, job_text}
 use Rattle.model.specs.Program.{Piece, gave, failed, text_of, Ended, answered}
 use Rattle.std.specs.declared.ops.ControlFlow.{ControlFlow}
-use Rattle.scanner.specs.Scanner.{state, finished, taken, goes_on, scan_of, has_more}
-use Rattle.scanner.specs.declared.scan.Scan.{Scan}
+use Rattle.scanner.specs.Scanning.{State, finished, taken, goes_on, has_more}
 
 -- One piece that `read` gave was taken.
-pub record Took (s : Scan) (t : List ℤ) (r : ControlFlow Scan Scan) (u : List ℤ) : Type 0 where
+pub record Took (s : State) (r : ControlFlow (Unit {0}) (Unit {0})) (s' : State) : Type 0 where
   pub piece : Piece
-  pub scan : state (scan_of r) u ≡ taken (state s t) piece
+  pub scan : s' ≡ taken s piece
   pub more : has_more r ≡ goes_on piece
 
 -- All pieces were taken, and the scan over the table says what their text says.
-pub record Heard (s : Scan) (t : List ℤ) : Type 0 where
+pub record Heard (s : State) : Type 0 where
   pub pieces : List Piece
   pub all : Ended pieces ⊎ (2 ^ 64 - 1 ≤ length pieces)
-  pub says : finished (state s t) ≡ on (text_of pieces) job_text
+  pub says : finished s ≡ on (text_of pieces) job_text
 
 -- ---- a reader whose bytes are known
 
@@ -27,8 +26,8 @@ Gives before after (gave bytes) = Consumes before after bytes × (bytes ≡ [] �
 Gives before after failed = Keeps before after
 
 -- The piece taken is what the reader had next.
-pub record TookNext (before after : Option (List ℕ)) (s : Scan) (t : List ℤ) (r : ControlFlow Scan Scan) (u : List ℤ) : Type 0 where
-  pub took : Took s t r u
+pub record TookNext (before after : Option (List ℕ)) (s : State) (r : ControlFlow (Unit {0}) (Unit {0})) (s' : State) : Type 0 where
+  pub took : Took s r s'
   pub gives : Gives before after took.piece
 
 -- The text of these pieces, if it is known to its end, is all that the reader was known to have left before the first.
@@ -36,8 +35,8 @@ abbrev pub Whole : Option (List ℕ) → List Piece → Type 0
 Whole before pieces = IfSome before (λ bytes. (text : List ℕ) → text_of pieces ≡ parsed text → text ≡ bytes)
 
 -- The pieces taken are all that the reader had.
-pub record HeardAll (before : Option (List ℕ)) (s : Scan) (t : List ℤ) : Type 0 where
-  pub heard : Heard s t
+pub record HeardAll (before : Option (List ℕ)) (s : State) : Type 0 where
+  pub heard : Heard s
   pub whole : Whole before heard.pieces
 
 -- A writer took what the program prints of all pieces of a reader.

@@ -1,5 +1,5 @@
 // The program: a job read from standard input, planned, and the answer printed on standard output.
-// Only `read_some`, `tell` and `complain` touch the outside. What is read goes through `scanner::take`, and what is written is what `tell` asks for.
+// Only `read_some`, `tell` and `complain` touch the outside. What is read goes through `Scanner::take`, and what is written is what `tell` asks for.
 // They take any reader and any writers, so that `run` can say what becomes of the bytes of those whose bytes are known; `main` lends the three standard ones, whose are not.
 #![tactic(auto)]
 
@@ -8,24 +8,23 @@ ghost use Rattle.std.specs.Io.KnownBytes.{Appends};
 ghost use Rattle.model.specs.Text.{parsed};
 ghost use Rattle.model.specs.Print.{printed};
 ghost use Rattle.model.specs.Program.{answered, Told};
-ghost use Rattle.tables.specs.Job.{call};
 ghost use Rattle.propagator.specs.Plans.{reply_of};
-ghost use Rattle.scanner.specs.Scanner.{state, finished};
+ghost use Rattle.scanner.specs.Scanning.{state_of, finished};
 ghost use Rattle.scanner.specs.Layout.{job_in, Room};
-ghost use Rattle.printer.specs.Buffer.{Printed};
+ghost use Rattle.printer.specs.Buffer.{HoldsReply, Printed};
 ghost use Rattle.orthmuzi.specs.Hearing.{TookNext, HeardAll, Wrote};
 
 use propagator::Answer;
 use propagator::plans::plan;
 use questions::{Question, Refusal};
-use scanner::{MOST_NUMBERS, Scan, Sizes};
+use scanner::{MOST_NUMBERS, Scan, Scanner, Sizes};
 use std::io;
 use std::io::{Read, Write};
 use std::ops::ControlFlow;
 
 // A reply as text.
 fn report(reply: Result<Answer, Refusal>, windows: &[i32], out: &mut [u8]) -> usize
-    requires { (length windows.now ≤ 320) × (8192 ≤ length out.old) }
+    requires { (length windows.now ≤ 320) × HoldsReply out.old }
     ensures { Printed out.new result (printed (reply_of reply) windows.now) }
 {
     match reply {
@@ -37,27 +36,9 @@ fn report(reply: Result<Answer, Refusal>, windows: &[i32], out: &mut [u8]) -> us
     }
 }
 
-// A job, word table by word table as `plan` takes it, planned with a round limit in a slip room of 16,000 words, and its answer put into `out`.
-fn planned(
-    h: i32,
-    cages: &[i32],
-    windows: &mut [i32],
-    lags: &[i32],
-    sets: &[i32],
-    limit: i32,
-    out: &mut [u8],
-) -> usize
-    requires { (length windows.old ≤ 320) × (8192 ≤ length out.old) }
-    ensures { Printed out.new result (answered (parsed (call h cages.now windows.old lags.now sets.now, limit))) }
-{
-    let mut room = [0i32; 16000];
-    let a = plan(h, cages, windows, lags, sets, limit, &mut room);
-    report(a, windows, out)
-}
-
-// The job of these sizes at the start of the table planned, its windows in `space`.
+// The job of these sizes at the start of the table planned, its windows in `space`, with its round limit and a slip room of 16,000 words.
 fn table_planned(s: Sizes, table: &[i32], space: &mut [i32], out: &mut [u8]) -> usize
-    requires { Room s table.now × (320 ≤ length space.old) × (8192 ≤ length out.old) }
+    requires { Room s table.now × (320 ≤ length space.old) × HoldsReply out.old }
     ensures { Printed out.new result (answered (parsed (job_in table.now s, s.limit))) }
 {
     let windows_at = 4 + 4 * s.cages;
@@ -65,27 +46,29 @@ fn table_planned(s: Sizes, table: &[i32], space: &mut [i32], out: &mut [u8]) -> 
     let sets_at = lags_at + 3 * s.lags + 1;
     let windows = &mut space[..5 * s.events];
     windows.copy_from_slice(&table[windows_at..lags_at]);
-    planned(
+    let mut room = [0i32; 16000];
+    let reply = plan(
         table[0],
         &table[2..][..4 * s.cages],
         windows,
         &table[lags_at..][..3 * s.lags],
         &table[sets_at..][..s.words],
         s.limit,
-        out,
-    )
+        &mut room,
+    );
+    report(reply, windows, out)
 }
 
 // The end of the text: what the program prints, put into `out`.
-fn answer(s: Scan, table: &mut [i32], out: &mut [u8]) -> usize
-    requires { 8192 ≤ length out.old }
-    ensures { Printed out.new result (answered (finished (state s table.old))) }
+fn answer(mut scanner: Scanner<'_>, out: &mut [u8]) -> usize
+    requires { HoldsReply out.old }
+    ensures { Printed out.new result (answered (finished (state_of scanner.entry))) }
 {
-    let Some(sizes) = scanner::finish(s, table) else {
+    let Some(sizes) = scanner.finish() else {
         return printer::print_refused(out, Question::Text.number(), 0);
     };
     let mut space = [0i32; 320];
-    table_planned(sizes, table, &mut space, out)
+    table_planned(sizes, scanner.table, &mut space, out)
 }
 
 // A line on standard error. Where it cannot be written either, nobody is left to be told.
@@ -98,35 +81,38 @@ fn complain(errors: &mut impl Write, line: &[u8]) {
 fn read_some<R: Read>(
     input: &mut R,
     errors: &mut impl Write,
-    s: Scan,
-    table: &mut [i32],
-) -> ControlFlow<Scan, Scan>
-    ensures { TookNext (R.remaining input.old) (R.remaining input.new) s table.old result table.new }
+    scanner: &mut Scanner<'_>,
+) -> ControlFlow<()>
+    ensures { TookNext (R.remaining input.old) (R.remaining input.new) (state_of scanner.old) result (state_of scanner.new) }
 {
     let mut piece = [0u8; 65536];
-    let got = input.read(&mut piece);
-    if got.is_err() {
+    let Ok(n) = input.read(&mut piece) else {
         complain(
             errors,
             b"orthmuzi: standard input could not be read to its end\n",
         );
-    }
-    scanner::take(s, &piece, got.ok(), table)
+        return scanner.take(None);
+    };
+    scanner.take(Some(&piece[..n]))
 }
 
 // Reads to the end of the input. A proved loop has to end, and nothing says that the input does: it takes no more turns than a number that no run uses up.
-fn read_all<R: Read>(input: &mut R, errors: &mut impl Write, table: &mut [i32]) -> Scan
+fn read_all<'a, R: Read>(
+    input: &mut R,
+    errors: &mut impl Write,
+    table: &'a mut [i32],
+) -> Scanner<'a>
     requires { 2198 ≤ length table.old }
-    ensures { HeardAll (R.remaining input.old) result table.new }
+    ensures { HeardAll (R.remaining input.old) (state_of result) }
 {
-    let mut scan = scanner::start();
+    let mut scanner = Scanner::new(table);
     for _ in 0..u64::MAX {
-        match read_some(input, errors, scan, table) {
-            ControlFlow::Continue(next) => scan = next,
-            ControlFlow::Break(last) => return last,
+        if read_some(input, errors, &mut scanner).is_break() {
+            return scanner;
         }
     }
-    Scan::Malformed
+    scanner.scan = Scan::Malformed;
+    scanner
 }
 
 // Writes the answer, which has to be that of the text read; it is Ok where all of it was written.
@@ -144,8 +130,8 @@ fn run<R: Read, W: Write>(input: &mut R, output: &mut W, errors: &mut impl Write
 {
     let mut table = [0i32; MOST_NUMBERS];
     let mut out = [0u8; 8192];
-    let s = read_all(input, errors, &mut table);
-    let n = answer(s, &mut table, &mut out);
+    let scanner = read_all(input, errors, &mut table);
+    let n = answer(scanner, &mut out);
     tell(output, &out[..n])
 }
 

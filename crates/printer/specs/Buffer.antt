@@ -6,6 +6,10 @@ use Rattle.printer.specs.declared.text.Text.{Text}
 abbrev pub HasRoom : Text → ℕ → Type 0
 HasRoom t n = t.at + n ≤ length t.out.now
 
+-- Room for the longest reply.
+abbrev pub HoldsReply : List ℕ → Type 0
+HoldsReply buffer = 8192 ≤ length buffer
+
 -- Bytes, at most so many, were put behind what stood in the buffer.
 pub record Put (most : ℕ) (before after : Text) (bytes : List ℕ) : Type 0 where
   pub same : after.out.ghost_name ≡ before.out.ghost_name

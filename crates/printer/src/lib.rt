@@ -6,7 +6,7 @@ mod text;
 ghost use Rattle.std.specs.Prelude.{◌≡◌, ◌++◌, ◌/◌, ◌≤◌, length};
 ghost use Rattle.model.specs.Text.{bytes};
 ghost use Rattle.model.specs.Print.{headline, event_lines};
-ghost use Rattle.printer.specs.Buffer.{Printed};
+ghost use Rattle.printer.specs.Buffer.{HoldsReply, Printed};
 
 use text::Text;
 
@@ -15,7 +15,7 @@ use text::Text;
 // The verdict's name with slips and rounds, then each event's number and the four words of its windows.
 // It rules out a program that loses digits (digit_lost) and one that numbers events otherwise (event_by_place).
 pub fn print_done(out: &mut [u8], name: &[u8], slips: usize, rounds: usize, table: &[i32]) -> usize
-    requires { (length name.now ≤ 8) × (length table.now ≤ 320) × (8192 ≤ length out.old) }
+    requires { (length name.now ≤ 8) × (length table.now ≤ 320) × HoldsReply out.old }
     ensures { Printed out.new result (headline name.now slips rounds ++ event_lines table.now (length table.now / 5)) }
 {
     let mut text = Text::new(out);
@@ -27,7 +27,7 @@ pub fn print_done(out: &mut [u8], name: &[u8], slips: usize, rounds: usize, tabl
 // "refused", number, place. The number is a number here, as printing knows no questions.
 // It rules out a program that exchanges the two (place_before_number) and one that loses digits (digit_lost).
 pub fn print_refused(out: &mut [u8], number: usize, place: usize) -> usize
-    requires { 8192 ≤ length out.old }
+    requires { HoldsReply out.old }
     ensures { Printed out.new result (headline (bytes "refused") number place) }
 {
     let mut text = Text::new(out);

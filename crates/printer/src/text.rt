@@ -5,7 +5,7 @@ ghost use Rattle.printer.specs.Buffer.{Put, HasRoom};
 
 use itoa::{Buffer, Integer};
 
-// A lent buffer, and the place that the text in it has reached. It is no `fmt::Write`: what `write!` promises of its text holds only where it answers Ok, and nothing says that it does.
+// A lent buffer, and the place that the text in it has reached. It is no `fmt::Write`: `write!` was tried, and the proof did not close. It promises its text only where it answers Ok, nothing says when it does, and the printers cannot fail.
 #[derive(Drop)]
 pub struct Text<'a> {
     out: &'a mut [u8],

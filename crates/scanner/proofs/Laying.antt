@@ -18,7 +18,7 @@ use Rattle.model.specs.Questions.{in_range}
 use Rattle.model.specs.Job.{Job}
 use Rattle.model.specs.Text.{Parsed, parsed, malformed, on, count_in, next_words, next_set, next_sets, limit_at_end, job_of}
 use Rattle.scanner.specs.Layout.{at, count_of, count_at, walked, limit_at, sizes, layout_of, ◌>>=◌, windows_at, lags_at, sets_at, numbers_of, Room, Handed}
-use Rattle.scanner.specs.Scanner.{State, state, read}
+use Rattle.scanner.specs.Scanning.{State, state, read}
 use Rattle.scanner.specs.declared.layout.Sizes.{Sizes}
 use Rattle.scanner.specs.declared.scan.Scan.TheVariants.{Between}
 use Rattle.scanner.proofs.Steps.{case}

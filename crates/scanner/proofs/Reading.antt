@@ -18,7 +18,7 @@ use Rattle.integers.proofs.Linear.{ints, neg_law}
 use Rattle.integers.proofs.Tests.{and_out, true_is}
 use Rattle.model.specs.Job.{Job}
 use Rattle.model.specs.Text.{Parsed, parsed, malformed, on, blank, minus, digit, digits_value, signed, fits_word, one_number, decimal, token, numbers_behind, job_of, job_text}
-use Rattle.scanner.specs.Scanner.{State, state, sized, kept, closed, ended, negated, valued, grown, step, fed, read, finished}
+use Rattle.scanner.specs.Scanning.{State, state, sized, kept, closed, ended, negated, valued, grown, step, fed, read, finished}
 use Rattle.scanner.specs.declared.scan.Scan.{Scan}
 use Rattle.scanner.specs.declared.scan.Scan.TheVariants.{Between, Minus, Digits, Malformed}
 use Rattle.scanner.proofs.Steps.{case, fed_malformed}

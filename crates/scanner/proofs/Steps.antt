@@ -6,7 +6,7 @@ use mathlib.Core.List.{List, [], ◌∷◌}
 use Prim.Native.Nat.{ℕ}
 use lib.IntN.{ℤ}
 use Rattle.model.specs.Text.{blank, minus, digit}
-use Rattle.scanner.specs.Scanner.{State, state, step, fed}
+use Rattle.scanner.specs.Scanning.{State, state, step, fed}
 use Rattle.scanner.specs.declared.scan.Scan.TheVariants.{Malformed}
 
 pub case : {P : Type 0} (b : Bool) → (b ≡ true → P) → (b ≡ false → P) → P

@@ -1,2 +1,2 @@
-pub mod Scanner
+pub mod Scanning
 pub mod Layout

@@ -1,10 +1,10 @@
 // The job that a whole text says: how its numbers, as they stand in the table, are laid out.
 ghost use Rattle.std.specs.Prelude.{◌≡◌, ◌+◌, ◌*◌, ◌≤◌, take, IfSome};
 ghost use Rattle.model.specs.Text.{job_of};
-ghost use Rattle.scanner.specs.Scanner.{state, finished};
+ghost use Rattle.scanner.specs.Scanning.{state, state_of, finished};
 ghost use Rattle.scanner.specs.Layout.{count_at, walked, limit_at, layout_of, Handed};
 
-use crate::scan::{Scan, end_token};
+use crate::scan::{Scan, Scanner, end_token};
 
 // H, a count and 4 words a cage of 8, two counts, 5 words an event of 64, 3 words a lag of 256, a count, 3 words a set of 16 and its members of 64, a round limit: no job has more numbers.
 pub const MOST_NUMBERS: usize = 2198;
@@ -81,13 +81,24 @@ fn laid_out(numbers: &[i32]) -> Option<Sizes>
     })
 }
 
-// The end of the text: the sizes of the job that it says, whose numbers then stand at the start of the table.
-// It rules out a program that takes nine cages (nine_cages) or seventeen sets (seventeen_sets), one that refuses 64 events (sixty_four_events_refused) and one that takes a number too many (number_too_many).
-pub fn finish(s: Scan, table: &mut [i32]) -> Option<Sizes>
+// The last token ended, and the sizes of the job that the text says. A function of its own: behind a shared loan of a struct's table the proof knows no word of it.
+fn job_sizes(s: Scan, table: &mut [i32]) -> Option<Sizes>
     ensures { Handed result table.new (finished (state s table.old)) }
 {
     let Scan::Between(many) = end_token(s, table) else {
         return None;
     };
     laid_out(&table[..many.min(table.len())])
+}
+
+impl<'a> Scanner<'a> {
+    // The end of the text: the sizes of the job that it says, whose numbers then stand at the start of the table.
+    // It rules out a program that takes nine cages (nine_cages) or seventeen sets (seventeen_sets), one that refuses 64 events (sixty_four_events_refused) and one that takes a number too many (number_too_many).
+    pub fn finish(&mut self) -> Option<Sizes>
+        ensures same_table { self.new.table.ghost_name ≡ self.old.table.ghost_name }
+        ensures same_scan { self.new.scan ≡ self.old.scan }
+        ensures job { Handed result self.new.table.now (finished (state_of self.old)) }
+    {
+        job_sizes(self.scan, self.table)
+    }
 }

@@ -5,6 +5,5 @@ mod layout;
 mod pieces;
 mod scan;
 
-pub use layout::{MOST_NUMBERS, Sizes, finish};
-pub use pieces::take;
-pub use scan::{Scan, feed, start};
+pub use layout::{MOST_NUMBERS, Sizes};
+pub use scan::{Scan, Scanner};

@@ -1,6 +1,7 @@
 // The numbers of a text, read byte by byte in pieces of any length.
+// The steps are functions of scan and table, of which `Scanner` is made: a method would say of each that the table stays the one lent.
 ghost use Rattle.std.specs.Prelude.{◌≡◌, ◌+◌, ◌*◌};
-ghost use Rattle.scanner.specs.Scanner.{state, sized, kept, closed, ended, negated, grown, valued, step, fed};
+ghost use Rattle.scanner.specs.Scanning.{state, state_of, sized, kept, closed, ended, negated, grown, valued, step, fed};
 
 // Where a text stands after some of its bytes.
 #[derive(Clone, Copy, Debug, PartialEq, Eq)]
@@ -11,15 +12,8 @@ pub enum Scan {
     Minus(usize),
     // So many numbers, then digits of this value, after a '-' if true.
     Digits(usize, bool, u32),
-    // Text otherwise formed, whatever follows: 20. A state, and no None: `feed`, `take` and `finish` are called with it too.
+    // Text otherwise formed, whatever follows: 20. A state, and no None: the scanner goes on with it.
     Malformed,
-}
-
-// No text yet.
-pub fn start() -> Scan
-    ensures { result ≡ Scan.Between 0 }
-{
-    Scan::Between(0)
 }
 
 // A value with its sign, if it is a word of 32 bits.
@@ -96,7 +90,7 @@ fn digit(s: Scan, d: u8) -> Scan
 }
 
 // One byte more.
-#[tactic(auto, unfolding(crate::specs::Scanner::step))]
+#[tactic(auto, unfolding(crate::specs::Scanning::step))]
 fn step(s: Scan, b: u8, table: &mut [i32]) -> Scan
     ensures { state result table.new ≡ step (state s table.old) b }
 {
@@ -108,14 +102,34 @@ fn step(s: Scan, b: u8, table: &mut [i32]) -> Scan
     }
 }
 
-// The scan after the bytes of one piece more, and the numbers that ended in it stored.
-// It rules out a program that takes "+5" (plus_taken) and one that refuses 2147483647 (largest_word_refused).
-pub fn feed(s: Scan, piece: &[u8], table: &mut [i32]) -> Scan
-    ensures { state result table.new ≡ fed (state s table.old) piece.now }
-{
-    let mut scan = s;
-    for b in piece {
-        scan = step(scan, *b, table);
+// Where a text stands, and a lent table that holds its numbers.
+#[derive(Drop)]
+pub struct Scanner<'a> {
+    pub table: &'a mut [i32],
+    pub scan: Scan,
+}
+
+impl<'a> Scanner<'a> {
+    // No text yet.
+    // It rules out a program that takes a text to begin behind a '-' (begun_with_minus).
+    pub fn new(table: &'a mut [i32]) -> Scanner<'a>
+        ensures same_table { result.table.ghost_name ≡ table.entry.ghost_name }
+        ensures start { state_of result ≡ state (Scan.Between 0) table.old }
+    {
+        Scanner {
+            table,
+            scan: Scan::Between(0),
+        }
     }
-    scan
+
+    // The bytes of one piece more, and the numbers that ended in it stored.
+    // It rules out a program that takes "+5" (plus_taken) and one that refuses 2147483647 (largest_word_refused).
+    pub fn feed(&mut self, piece: &[u8])
+        ensures same_table { self.new.table.ghost_name ≡ self.old.table.ghost_name }
+        ensures scan { state_of self.new ≡ fed (state_of self.old) piece.now }
+    {
+        for b in piece {
+            self.scan = step(self.scan, *b, self.table);
+        }
+    }
 }

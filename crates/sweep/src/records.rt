@@ -9,7 +9,7 @@ use std::io::Read;
 // What is said where the stream ends before its last record does.
 const CUT: &str = "the stream is cut short";
 
-// Who is called.
+// Who is called. `cases` has its own, which takes any other number for the reader: a crate under both for an enum of two is no plainer.
 #[derive(Clone, Copy)]
 pub enum Called {
     Planner,

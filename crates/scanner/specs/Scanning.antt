@@ -6,6 +6,7 @@ use Rattle.model.specs.Job.{Job}
 use Rattle.model.specs.Text.{Parsed, malformed, blank, minus, digit, signed, fits_word, job_of}
 use Rattle.model.specs.Program.{Piece, gave, failed}
 use Rattle.scanner.specs.declared.scan.Scan.{Scan}
+use Rattle.scanner.specs.declared.scan.Scanner.{Scanner}
 use Rattle.scanner.specs.declared.scan.Scan.TheVariants.{Between, Minus, Digits, Malformed}
 
 -- Where the scanner stands after some bytes, and the table that holds the numbers read.
@@ -15,6 +16,9 @@ pub record State : Type 0 where
 
 abbrev pub state : Scan → List ℤ → State
 state s t = record { scan = s; table = t }
+
+abbrev pub state_of : Scanner → State
+state_of s = state s.scan s.table.now
 
 -- A value with a sign as a word, if it is in 32 bits.
 abbrev pub sized : Bool → ℕ → Option ℤ
@@ -76,10 +80,10 @@ finished s = read (ended s.scan s.table)
 
 -- ---- pieces
 
--- What a call of `read` gave that was lent these bytes and put so many there, or failed.
-abbrev pub piece_of : List ℕ → Option ℕ → Piece
-piece_of lent (Some n) = gave (take n lent)
-piece_of lent None = failed
+-- What a call of `read` gave, or that it failed.
+abbrev pub piece_of : Option (List ℕ) → Piece
+piece_of (Some bytes) = gave bytes
+piece_of None = failed
 
 -- One piece more; where the call failed, the text is not known to its end.
 abbrev pub taken : State → Piece → State
@@ -91,11 +95,7 @@ abbrev pub goes_on : Piece → Bool
 goes_on (gave bytes) = ltb 0 (length bytes)
 goes_on failed = false
 
--- Where the text stands behind a piece, and whether it goes on there.
-abbrev pub scan_of : ControlFlow Scan Scan → Scan
-scan_of (Continue s) = s
-scan_of (Break s) = s
-
-abbrev pub has_more : ControlFlow Scan Scan → Bool
-has_more (Continue s) = true
-has_more (Break s) = false
+-- Whether the text goes on behind a piece.
+abbrev pub has_more : ControlFlow (Unit {0}) (Unit {0}) → Bool
+has_more (Continue _) = true
+has_more (Break _) = false
