@@ -16,19 +16,9 @@ use Rattle.model.proofs.Agree.{Agree, at_hand, most_agree, family_rule_agree}
 use Rattle.tables.specs.Job.{reservoir_of, Serves}
 use Rattle.tables.specs.declared.Job.{Job as Code}
 use Rattle.tables.proofs.Holding.{home_same, seen_side}
-use Rattle.levels.specs.Values.{strict_at, plainly, Views, Sighted}
+use Rattle.levels.specs.Values.{Views, Sighted}
 use Rattle.levels.specs.declared.Stance.{Stance}
 use Rattle.levels.specs.declared.View.{View as Sight}
-
--- Cover 0 says nothing to a rule that is strict, or of the mirror.
-pub plainly_same : (s : Stance) (W : Windows) → strict_at (plainly s) W ≡ strict_at s W
-plainly_same s W = fun_ext (λ y. go s.mirror s.strict s.later (produces (W y h_max)))
-  where
-    go : (m b l p : Bool) → (b || (not m && ((l && (not m && not b)) && p))) ≡ (b || (not m && (l && p)))
-    go m true l p = refl
-    go true false l p = refl
-    go false false true p = refl
-    go false false false p = refl
 
 pub limit_within : (m : Bool) (c : Reservoir) → SaneCage c → Within (side_limit m c) 1000000
 limit_within true c s = let h = s.max_range in omega (ints, neg_law c.max_level)

@@ -25,10 +25,6 @@ place_of p = place_by p.sure p.possible
 abbrev pub strict_at : Stance → Windows → ℕ → Bool
 strict_at s W y = s.strict || (not s.mirror && (s.later && produces (W y h_max)))
 
--- The same with cover 0 left out where it says nothing.
-abbrev pub plainly : Stance → Stance
-plainly s = record { mirror = s.mirror; strict = s.strict; later = s.later && (not s.mirror && not s.strict) }
-
 -- The code's view on windows W: how it counts, and the windows as it sees them.
 abbrev pub as_view : View → Windows → model.View
 as_view v W =

@@ -3,6 +3,7 @@ ghost use Rattle.std.specs.Prelude.{◌≡◌, ℕ, cond, ◌<◌, ◌≤◌, po
 ghost use Rattle.integers.specs.Range.{Within};
 ghost use Rattle.integers.specs.Sum.{sum};
 ghost use Rattle.model.specs.Job.{h_min, h_max};
+ghost use Rattle.model.specs.Standing.{Ranged};
 ghost use Rattle.model.specs.View.{side};
 ghost use Rattle.model.specs.Levels.{e_min, e_max, gain, most_in, most, sure_part};
 ghost use Rattle.tables.specs.Board.{board};
@@ -10,7 +11,7 @@ ghost use Rattle.levels.specs.Values.{place_of, strict_at, other_gains};
 ghost use Rattle.levels.specs.Sights.{sees, shows};
 
 use crate::places::side_h_max;
-use crate::{Place, Sight, Stance};
+use crate::{Place, Sight, Stance, literally};
 use tables::{Board, Height, Time};
 
 // An amount and what each of n events adds to it: one loop for all levels, floors and totals. What is added is inlined into it, so that it goes along the board's rows without a branch.
@@ -59,17 +60,25 @@ pub fn own_gain(b: &Board, s: Stance, e: usize) -> Height
     }
 }
 
+// The opening stock q and what n events add, all as others than e, whose time window is u..v: there is no test for e.
+#[inline(always)]
+fn sum_gains(b: &Board, n: usize, q: Height, s: Stance, u: Time, v: Time) -> Height
+    requires { Ranged n (board b.now.words) × Within q.0 1000000 }
+    ensures { result.0
+        ≡ q.0 +ℤ sum n (other_gains (strict_at s (board b.now.words)) (side s.mirror (board b.now.words)) u.0 v.0) }
+{
+    added(n, q, |y| other_gain(b, s, u, v, y))
+}
+
 impl Sight<'_> {
-    // The opening stock and what all events add, e taken for another event, so that there is no test for e; u..v for e's time window.
+    // The same in a view.
     pub fn all_gains(self, u: Time, v: Time) -> Height
         ensures { result.0 ≡ self.entry.view.opening.0 +ℤ sum self.entry.view.events (other_gains (sees self.entry).before (shows self.entry) u.0 v.0) }
     {
         let b = self.board;
         let n = self.view.events;
         let q = self.view.opening;
-        self.view
-            .stance
-            .literally(|s| added(n, q, |y| other_gain(b, s, u, v, y)))
+        literally!(self.view.stance, s => sum_gains(b, n, q, s, u, v))
     }
 
     // Most before (by) e with u..v for e's time window.

@@ -3,7 +3,7 @@ ghost use Rattle.std.specs.Prelude.{◌≡◌, ◌<◌};
 ghost use Rattle.model.specs.Job.{t_min, t_max, ahead};
 ghost use Rattle.model.specs.Levels.{placed};
 ghost use Rattle.tables.specs.Board.{board};
-ghost use Rattle.levels.specs.Values.{place_of, strict_at, plainly};
+ghost use Rattle.levels.specs.Values.{place_of, strict_at};
 
 use crate::places::{ahead, placed};
 use crate::{Place, Stance};
@@ -31,23 +31,28 @@ impl Stance {
         let possibly = ahead(strict, b.t_min(y), v);
         placed(own, strict, surely, possibly)
     }
+}
 
-    // A loop over all events, with the five stances that differ as literals in it: each is then made without a test for them.
-    pub fn literally<T, F: Fn(Stance) -> T>(self, run: F) -> T
-        requires { F.pre run (plainly self) }
-        ensures { F.post run (plainly self) result }
-    {
-        let stance = |mirror, strict, later| Stance {
-            mirror,
-            strict,
-            later,
-        };
-        match (self.mirror, self.strict, self.later) {
-            (true, true, _) => run(stance(true, true, false)),
-            (true, false, _) => run(stance(true, false, false)),
-            (false, true, _) => run(stance(false, true, false)),
-            (false, false, true) => run(stance(false, false, true)),
-            (false, false, false) => run(stance(false, false, false)),
+// What is made of a stance, with the five that differ as literals in it: a loop over all events then has no test for them.
+// A macro, since a function over a closure was tried: the closure is not made part of its caller, and a level costs a fifth more.
+#[macro_export]
+macro_rules! literally {
+    ($stance:expr, $s:ident => $made:expr) => {{
+        let stance = $stance;
+        match (stance.mirror, stance.strict, stance.later) {
+            (true, true, _) => $crate::literally!(@ $s, true, true, false, $made),
+            (true, false, _) => $crate::literally!(@ $s, true, false, false, $made),
+            (false, true, _) => $crate::literally!(@ $s, false, true, false, $made),
+            (false, false, true) => $crate::literally!(@ $s, false, false, true, $made),
+            (false, false, false) => $crate::literally!(@ $s, false, false, false, $made),
         }
-    }
+    }};
+    (@ $s:ident, $mirror:literal, $strict:literal, $later:literal, $made:expr) => {{
+        let $s = $crate::Stance {
+            mirror: $mirror,
+            strict: $strict,
+            later: $later,
+        };
+        $made
+    }};
 }

@@ -8,14 +8,14 @@ use native.Mathlib.Decide.{ℕ_discrete}
 use native.Mathlib.Numerals.{add-one}
 use native.Mathlib.Omega.{arith}
 use lib.Dec.{T}
-use lib.IntN.{ℤ, pos, nat_abs, ◌+ℤ◌, ◌-ℤ◌}
+use lib.IntN.{ℤ, pos, ◌+ℤ◌, ◌-ℤ◌}
 use lib.Signed.{le_z, lt_z, ◌≤ℤ◌, le_z_yes}
 use Rattle.integers.specs.Range.{Within}
 use Rattle.integers.specs.Sum.{sum}
 use Rattle.integers.proofs.Linear.{ints, add_law}
 use Rattle.integers.proofs.Sums.{sum_le, sum_le_but}
 use Rattle.integers.proofs.Tests.{is_true, true_is, and_in, and_out}
-use Rattle.model.specs.Job.{t_min, t_max, h_min, h_max, Windows, ahead, produces, lag_word, Reservoir, Job, events, lag_a, lag_b, lag_d}
+use Rattle.model.specs.Job.{t_min, t_max, h_min, h_max, Windows, ahead, produces, Reservoir, Job, events, lag_a, lag_b, lag_d}
 use Rattle.model.specs.Standing.{Ranged}
 use Rattle.model.specs.View.{side_value, side, side_limit, View}
 use Rattle.model.specs.Levels.{placed, e_min, e_max, gain, gains, most_in, most}

@@ -22,10 +22,8 @@ use Rattle.model.proofs.Agree.{effect_agree}
 use Rattle.model.proofs.Silence.{Idle, seen_idle, untargeted_idle, spared_idle}
 use Rattle.tables.specs.Job.{Serves}
 use Rattle.tables.specs.declared.Job.{Job as Code}
-use Rattle.levels.specs.Values.{strict_at, plainly}
-use Rattle.levels.specs.declared.Stance.{Stance}
-use Rattle.levels.proofs.Viewing.{plainly_same, here_view, seen_here, rule_here}
-use Rattle.silence.specs.Slack.{slack_of, spares, moves, may_move, count, may_be_moved, some_move}
+use Rattle.levels.proofs.Viewing.{here_view, seen_here, rule_here}
+use Rattle.silence.specs.Slack.{slack_of, spares, moves, count, may_be_moved, some_move}
 
 -- ---- counting
 
@@ -45,10 +43,6 @@ count_none p = refl
 pub count_more : (p : ℕ → Bool) (i : ℕ) {c h : ℕ} {t : Bool} → c ≡ count i p → t ≡ p i → h ≡ cond t 1 0 → c + h ≡ count (i + 1) p
 unfolding count
 count_more p i a b d = rw (add-one i, a, d, b)
-
--- Counted with cover 0 left out where it says nothing.
-pub count_plainly : (s : Stance) (n : ℕ) (X W : Windows) (k : ℤ) {u v i j : ℤ} {r : ℕ} → u ≡ i → v ≡ j → r ≡ count n (may_move (strict_at (plainly s) W) X W u v k) → r ≡ count n (may_move (strict_at s W) X W i j k)
-count_plainly s n X W k {i = i} {j = j} p q h = rw (p, q) at h ∙ ap (λ b. count n (may_move b X W i j k)) (plainly_same s W)
 
 one_counts : (n : ℕ) (p : ℕ → Bool) (y : ℕ) → y < n → cond (p y) 1 0 ≤ count n p
 unfolding count

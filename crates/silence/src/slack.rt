@@ -10,7 +10,7 @@ ghost use Rattle.levels.specs.Sights.{sees, shows};
 ghost use Rattle.silence.specs.Slack.{slack_of, spares, moves, may_move, count, may_be_moved, some_move};
 
 use levels::places::side_h_max;
-use levels::{Sight, Stance, View};
+use levels::{Sight, Stance, View, literally};
 use rules::bounds::is_target;
 use tables::{Board, Height, Time};
 
@@ -60,6 +60,7 @@ fn may_move(b: &Board, s: Stance, u: Time, v: Time, k: Height, y: usize) -> bool
 }
 
 // How many of n events, e taken for another event, may be moved: this loop has no branch and no test for e.
+#[inline(always)]
 fn tally_moves(b: &Board, n: usize, s: Stance, u: Time, v: Time, k: Height) -> u32
     requires { Ranged n (board b.now.words) }
     ensures { (result
@@ -85,9 +86,7 @@ fn count_moves(s: Sight, k: Height) -> u32
     let n = s.view.events;
     let u = s.e_min();
     let v = s.e_max();
-    s.view
-        .stance
-        .literally(|stance| tally_moves(b, n, stance, u, v, k))
+    literally!(s.view.stance, stance => tally_moves(b, n, stance, u, v, k))
 }
 
 // May some target at e be moved by the slack k?
