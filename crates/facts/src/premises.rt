@@ -208,7 +208,7 @@ fn other_quoted(b: &Board, c: LevelCiting, z: usize) -> Quoted
     requires { (z < 64) × Within (board b.now.words z h_min) 9999 × (z ≡ c.view.subject → ⊥) }
     ensures { Quotes c (board b.now.words) z result }
 {
-    let p = c.view.place(b, c.from, c.to, z);
+    let p = c.view.stance.place(b, c.from, c.to, z, false);
     let h = c.view.seen_h_max(b, z);
     let spared = c.spares & (z == c.target);
     if h.produces() {

@@ -14,7 +14,8 @@ use crate::places::side_h_max;
 use crate::{Place, Sight, Stance, literally};
 use tables::{Board, Height, Time};
 
-// An amount and what each of n events adds to it: one loop for all levels, floors and totals. What is added is inlined into it, so that it goes along the board's rows without a branch.
+// An amount and what each of n events adds to it: one loop for all levels, floors and totals. It is made part of its caller with what is added, so that it goes along the board's rows without a branch.
+#[inline(always)]
 pub fn added<F: Fn(usize) -> Height>(n: usize, q: Height, gain: F) -> Height
     requires few { n ≤ 64 }
     requires opening { Within q.0 1000000 }
