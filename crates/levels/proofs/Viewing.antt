@@ -1,13 +1,13 @@
 -- Views as the code makes them: they are the definitions', and their numbers are in range.
 -- Assumes nothing.
-use mathlib.Core.Path.{◌≡◌, refl, sym, ap, ap₂, fun_ext, ◌∙◌}
+use mathlib.Core.Path.{◌≡◌, sym, ap, ap₂, ◌∙◌}
 use mathlib.Core.Bool.{Bool, true, false, not, ◌&&◌, ◌||◌}
 use mathlib.Core.List.{List}
 use Prim.Native.Nat.{ℕ, ◌<◌}
 use lib.IntN.{ℤ, pos}
 use Rattle.integers.specs.Range.{Within, eq_z}
 use Rattle.integers.proofs.Linear.{ints, neg_law}
-use Rattle.model.specs.Job.{h_max, Windows, produces, Reservoir, Job, events, home}
+use Rattle.model.specs.Job.{h_max, Windows, Reservoir, Job, events, home}
 use Rattle.model.specs.Standing.{SaneCage, Ranged}
 use Rattle.model.specs.View.{side_value, side, side_limit, View, view_of, view, seen}
 use Rattle.model.specs.Levels.{most}
@@ -17,7 +17,6 @@ use Rattle.tables.specs.Job.{reservoir_of, Serves}
 use Rattle.tables.specs.declared.Job.{Job as Code}
 use Rattle.tables.proofs.Holding.{home_same, seen_side}
 use Rattle.levels.specs.Values.{Views, Sighted}
-use Rattle.levels.specs.declared.Stance.{Stance}
 use Rattle.levels.specs.declared.View.{View as Sight}
 
 pub limit_within : (m : Bool) (c : Reservoir) → SaneCage c → Within (side_limit m c) 1000000

@@ -39,20 +39,20 @@ pub fn gain(p: Place, h: Height) -> Height
 }
 
 // What event y, as another than e, adds to the level of e, whose time window is u..v.
-pub fn other_gain(b: &Board, s: Stance, u: Time, v: Time, y: usize) -> Height
+pub fn other_gain(b: &Board, s: &Stance, u: Time, v: Time, y: usize) -> Height
     requires { (y < 64) × Within (board b.now.words y h_min) 9999 }
     ensures { result.0
-        ≡ other_gains (strict_at s (board b.now.words)) (side s.mirror (board b.now.words)) u.0 v.0 y }
+        ≡ other_gains (strict_at s.now (board b.now.words)) (side s.now.mirror (board b.now.words)) u.0 v.0 y }
 {
     let h = side_h_max(b, s.mirror, y);
     gain(s.place(b, u, v, y, false), h)
 }
 
 // What e adds to its own level.
-pub fn own_gain(b: &Board, s: Stance, e: usize) -> Height
+pub fn own_gain(b: &Board, s: &Stance, e: usize) -> Height
     requires { (e < 64) × Within (board b.now.words e h_min) 9999 }
     ensures { result.0
-        ≡ cond (strict_at s (board b.now.words) e) (pos 0) (side s.mirror (board b.now.words) e h_max) }
+        ≡ cond (strict_at s.now (board b.now.words) e) (pos 0) (side s.now.mirror (board b.now.words) e h_max) }
 {
     if s.is_before(b, e) {
         Height::ZERO
@@ -63,10 +63,10 @@ pub fn own_gain(b: &Board, s: Stance, e: usize) -> Height
 
 // The opening stock q and what n events add, all as others than e, whose time window is u..v: there is no test for e.
 #[inline(always)]
-fn sum_gains(b: &Board, n: usize, q: Height, s: Stance, u: Time, v: Time) -> Height
+fn sum_gains(b: &Board, n: usize, q: Height, s: &Stance, u: Time, v: Time) -> Height
     requires { Ranged n (board b.now.words) × Within q.0 1000000 }
     ensures { result.0
-        ≡ q.0 +ℤ sum n (other_gains (strict_at s (board b.now.words)) (side s.mirror (board b.now.words)) u.0 v.0) }
+        ≡ q.0 +ℤ sum n (other_gains (strict_at s.now (board b.now.words)) (side s.now.mirror (board b.now.words)) u.0 v.0) }
 {
     added(n, q, |y| other_gain(b, s, u, v, y))
 }
@@ -79,7 +79,7 @@ impl Sight<'_> {
         let b = self.board;
         let n = self.view.events;
         let q = self.view.opening;
-        literally!(self.view.stance, s => sum_gains(b, n, q, s, u, v))
+        literally!(self.view.stance, s => sum_gains(b, n, q, &s, u, v))
     }
 
     // Most before (by) e with u..v for e's time window.
@@ -88,7 +88,7 @@ impl Sight<'_> {
     {
         let b = self.board;
         let e = self.view.subject;
-        let s = self.view.stance;
+        let s = &self.view.stance;
         let others = self.all_gains(u, v) - other_gain(b, s, u, v, e);
         others + own_gain(b, s, e)
     }

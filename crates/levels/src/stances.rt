@@ -11,20 +11,20 @@ use tables::{Board, Time};
 
 impl Stance {
     // Is "before" meant of y: wherever the rule is strict, and where deliveries count later, of a delivery on the job's own side.
-    pub fn is_before(self, b: &Board, y: usize) -> bool
+    pub fn is_before(&self, b: &Board, y: usize) -> bool
         requires { y < 64 }
-        ensures { result ≡ strict_at self (board b.now.words) y }
+        ensures { result ≡ strict_at self.now (board b.now.words) y }
     {
         self.strict || !self.mirror && self.later && b.h_max(y).produces()
     }
 
     // Where y stands to e, whose time window is u..v; own says whether it is e itself.
-    pub fn place(self, b: &Board, u: Time, v: Time, y: usize, own: bool) -> Place
+    pub fn place(&self, b: &Board, u: Time, v: Time, y: usize, own: bool) -> Place
         requires { y < 64 }
         ensures { place_of result
-            ≡ placed own (strict_at self (board b.now.words) y)
-            (ahead (strict_at self (board b.now.words) y) (board b.now.words y t_max) u.0)
-            (ahead (strict_at self (board b.now.words) y) (board b.now.words y t_min) v.0) }
+            ≡ placed own (strict_at self.now (board b.now.words) y)
+            (ahead (strict_at self.now (board b.now.words) y) (board b.now.words y t_max) u.0)
+            (ahead (strict_at self.now (board b.now.words) y) (board b.now.words y t_min) v.0) }
     {
         let strict = self.is_before(b, y);
         let surely = ahead(strict, b.t_max(y), u);

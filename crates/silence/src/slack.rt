@@ -48,10 +48,10 @@ pub fn is_moved(b: &Board, view: View, k: Height, y: usize) -> bool
 }
 
 // The same of y as another event than e, whose time window is u..v; neutral events are let pass.
-fn may_move(b: &Board, s: Stance, u: Time, v: Time, k: Height, y: usize) -> bool
+fn may_move(b: &Board, s: &Stance, u: Time, v: Time, k: Height, y: usize) -> bool
     requires { (y < 64) × Within (board b.now.words y h_min) 9999 × Within (board b.now.words y h_max) 9999 }
     ensures { result
-        ≡ may_move (strict_at s (board b.now.words)) (side s.mirror (board b.now.words)) (board b.now.words) u.0 v.0 k.0 y }
+        ≡ may_move (strict_at s.now (board b.now.words)) (side s.now.mirror (board b.now.words)) (board b.now.words) u.0 v.0 k.0 y }
 {
     let p = s.place(b, u, v, y, false);
     let made = side_h_max(b, s.mirror, y).produces();
@@ -61,11 +61,11 @@ fn may_move(b: &Board, s: Stance, u: Time, v: Time, k: Height, y: usize) -> bool
 
 // How many of n events, e taken for another event, may be moved: this loop has no branch and no test for e.
 #[inline(always)]
-fn tally_moves(b: &Board, n: usize, s: Stance, u: Time, v: Time, k: Height) -> u32
+fn tally_moves(b: &Board, n: usize, s: &Stance, u: Time, v: Time, k: Height) -> u32
     requires { Ranged n (board b.now.words) }
     ensures { (result
         ≡ count n
-        (may_move (strict_at s (board b.now.words)) (side s.mirror (board b.now.words)) (board b.now.words) u.0 v.0 k.0))
+        (may_move (strict_at s.now (board b.now.words)) (side s.now.mirror (board b.now.words)) (board b.now.words) u.0 v.0 k.0))
         × (result ≤ 64) }
 {
     let mut total: u32 = 0;
@@ -86,7 +86,7 @@ fn count_moves(s: Sight, k: Height) -> u32
     let n = s.view.events;
     let u = s.e_min();
     let v = s.e_max();
-    literally!(s.view.stance, stance => tally_moves(b, n, stance, u, v, k))
+    literally!(s.view.stance, stance => tally_moves(b, n, &stance, u, v, k))
 }
 
 // May some target at e be moved by the slack k?
@@ -95,7 +95,7 @@ pub fn is_any_moved(s: Sight, k: Height) -> bool
 {
     let b = s.board;
     let e = s.view.subject;
-    let stance = s.view.stance;
+    let stance = &s.view.stance;
     let all = count_moves(s, k);
     let own = u32::from(may_move(b, stance, s.e_min(), s.e_max(), k, e));
     let before = stance.is_before(b, e);
