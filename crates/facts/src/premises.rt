@@ -166,21 +166,9 @@ pub fn citing(a: Attempt, x: Effect) -> Citing
     ensures { Cites a.entry.job a.entry.lags.now (on a.entry) (rule_of a.entry.rule) a.entry.subject a.entry.target x result }
 {
     match a.rule {
-        Rule::LagUpper => {
-            let lag = Lag::of_table(a.lags, a.subject);
-            Citing::Lag(lag_citing(a.board, lag, x.has_failed(), true))
-        }
-        Rule::LagLower => {
-            let lag = Lag::of_table(a.lags, a.subject);
-            Citing::Lag(lag_citing(a.board, lag, true, x.has_failed()))
-        }
-        Rule::Reservoir(v) => {
-            let sight = Sight {
-                board: a.board,
-                view: v.view(a.job, a.subject),
-            };
-            Citing::Level(level_citing(sight, v.family, a.target, x))
-        }
+        Rule::LagUpper => Citing::Lag(lag_citing(a.board, a.lag(), x.has_failed(), true)),
+        Rule::LagLower => Citing::Lag(lag_citing(a.board, a.lag(), true, x.has_failed())),
+        Rule::Reservoir(v) => Citing::Level(level_citing(a.sight(v), v.family, a.target, x)),
         // No such rule is tried here.
         Rule::Total { mirror } => total_citing(mirror, a.target, x),
     }

@@ -1,4 +1,5 @@
 // How a rule counts: before or by of each event, and where it places one.
+// A stance is lent: three flags handed over by value travel as one number, which every step of a loop would take apart.
 ghost use Rattle.std.specs.Prelude.{◌≡◌, ◌<◌};
 ghost use Rattle.model.specs.Job.{t_min, t_max, ahead};
 ghost use Rattle.model.specs.Levels.{placed};

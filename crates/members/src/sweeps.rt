@@ -126,10 +126,7 @@ pub fn all_sets(board: &mut Board, events: usize, sets: &[i32], log: &mut Log<'_
     ensures { Leads events (Binds events sets.now) (λ j. made (room log.old) j (sets_attempts j)) board.old.words log.old board.new.words log.new
         × Held events board.new.words }
 {
-    let mut set = Set {
-        table: sets,
-        at: 0,
-    };
+    let mut set = Set { table: sets, at: 0 };
     for subject in 0..begun(sets) {
         let mut job = SetJob {
             board: &mut *board,

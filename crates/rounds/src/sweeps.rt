@@ -78,8 +78,10 @@ impl CageJob<'_> {
         }
         let e = view.subject;
         let s = view.stance;
-        self.attempt(Rule::reservoir(s.mirror, s.strict, Family::Level), e, e, log);
-        self.attempt(Rule::reservoir(s.mirror, s.strict, Family::Time), e, e, log);
+        let level = Rule::reservoir(s.mirror, s.strict, Family::Level);
+        let time = Rule::reservoir(s.mirror, s.strict, Family::Time);
+        self.attempt(level, e, e, log);
+        self.attempt(time, e, e, log);
     }
 
     // Its third rule, which is 5, 8, 11 or 14, with every target in event order: passed over is one that s, what e's level leaves over its limit, does not move. The level is added up once: no target moves an end that it reads.

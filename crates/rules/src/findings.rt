@@ -1,13 +1,15 @@
 // What each rule gives.
-ghost use Rattle.std.specs.Prelude.{◌≡◌, ◌<◌};
+ghost use Rattle.std.specs.Prelude.{◌≡◌, ◌/◌, ◌<◌, length};
 ghost use Rattle.model.specs.Rules.{level, time, height};
 ghost use Rattle.tables.specs.Board.{board};
-ghost use Rattle.rules.specs.Values.{family_of, finding_of, seen_rule};
-ghost use Rattle.rules.specs.Attempts.{Gives};
+ghost use Rattle.tables.specs.Job.{reservoir_of};
+ghost use Rattle.levels.specs.Values.{Views};
+ghost use Rattle.rules.specs.Values.{family_of, variant_of, rule_of, finding_of, seen_rule, IsLag, Timed};
+ghost use Rattle.rules.specs.Attempts.{on, Gives};
 
 use crate::bounds::{height_bound, is_target, level_clashes, time_rule};
 use crate::lags::Lag;
-use crate::{Attempt, Family, Finding, Rule};
+use crate::{Attempt, Family, Finding, Rule, Variant};
 use levels::Sight;
 use levels::places::side_height;
 
@@ -57,25 +59,37 @@ fn family_finding(s: Sight, f: Family, y: usize) -> Finding
     }
 }
 
-impl Attempt<'_> {
-    // What the rule gives.
+// ---- in an attempt
+
+impl<'a> Attempt<'a> {
+    // Its lag, where it is of rule 1 or 2.
+    pub fn lag(self) -> Lag
+        requires { self.subject < length self.lags.now / 3 }
+        ensures { IsLag self.entry.lags.now self.entry.subject result × Timed result (on self.entry) }
+    {
+        Lag::of_table(self.lags, self.subject)
+    }
+
+    // Its board in its view, where it is of a reservoir rule.
+    pub fn sight(self, v: Variant) -> Sight<'a>
+        requires { variant_of v ≡ rule_of self.rule }
+        ensures { Views self.entry.job.events (reservoir_of self.entry.job.reservoir) v.mirror v.strict self.entry.subject result.view
+            × (result.board.now ≡ self.entry.board.now) }
+    {
+        Sight {
+            board: self.board,
+            view: v.view(self.job, self.subject),
+        }
+    }
+
+    // What its rule gives.
     pub fn finding(self) -> Finding
         ensures { Gives self.entry result }
     {
         match self.rule {
-            Rule::LagUpper => {
-                Finding::Bound(Lag::of_table(self.lags, self.subject).upper(self.board).into())
-            }
-            Rule::LagLower => {
-                Finding::Bound(Lag::of_table(self.lags, self.subject).lower(self.board).into())
-            }
-            Rule::Reservoir(v) => {
-                let sight = Sight {
-                    board: self.board,
-                    view: v.view(self.job, self.subject),
-                };
-                family_finding(sight, v.family, self.target)
-            }
+            Rule::LagUpper => Finding::Bound(self.lag().upper(self.board).into()),
+            Rule::LagLower => Finding::Bound(self.lag().lower(self.board).into()),
+            Rule::Reservoir(v) => family_finding(self.sight(v), v.family, self.target),
             // No such rule is tried here.
             Rule::Total { mirror: _ } => Finding::Nothing,
         }

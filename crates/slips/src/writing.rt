@@ -131,9 +131,7 @@ impl<'a> Quoting<'a> {
         ensures { result ≡ length (quoted_by self.now) }
     {
         match self.cited {
-            Citing::Lag(c) => {
-                usize::from(c.from.is_some()) + usize::from(c.to.is_some())
-            },
+            Citing::Lag(c) => { usize::from(c.from.is_some()) + usize::from(c.to.is_some()) },
             Citing::Level(c) => count_events(self.board, self.events, c),
             Citing::Total(c) => count_events(self.board, self.events, c),
         }

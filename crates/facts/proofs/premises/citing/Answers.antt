@@ -5,7 +5,6 @@ use Prim.Native.Nat.{◌/◌, ◌<◌}
 use lib.ListN.{length}
 use Rattle.rules.specs.Values.{family_of, rule_of}
 use Rattle.rules.specs.Attempts.{on}
-use Rattle.levels.proofs.Viewing.{sighted}
 use Rattle.rules.proofs.Giving.{event_subject}
 use Rattle.facts.proofs.Quoting.{span_within, cites_by_upper, cites_by_lower, cites_by_side}
 use Rattle.facts.proofs.premises.citing.Goals as goal
@@ -14,19 +13,13 @@ pub returns-in-LagUpper : goal.returns-in-LagUpper
 returns-in-LagUpper c =
     let a = c.args.a in
     let t : a.subject < length a.lags.now / 3 = rw c.in-LagUpper.is at a.tried.subject in
-    rw c.in-LagUpper.is (cites_by_upper (on a) a.subject a.target c.args.x a.tried.fit t c.of_table-lag.ensures (rw c.has_failed.ensures at c.lag_citing.ensures))
+    rw c.in-LagUpper.is (cites_by_upper (on a) a.subject a.target c.args.x a.tried.fit t c.lag.ensures.0 (rw c.has_failed.ensures at c.lag_citing.ensures))
 
 pub returns-in-LagLower : goal.returns-in-LagLower
 returns-in-LagLower c =
     let a = c.args.a in
     let t : a.subject < length a.lags.now / 3 = rw c.in-LagLower.is at a.tried.subject in
-    rw c.in-LagLower.is (cites_by_lower (on a) a.subject a.target c.args.x a.tried.fit t c.of_table-lag-in-LagLower.ensures (rw c.has_failed-in-LagLower.ensures at c.lag_citing-in-LagLower.ensures))
-
-pub invariant_of-sight : goal.invariant_of-sight
-invariant_of-sight c =
-    let a = c.args.a in
-    let v = c.in-Reservoir.v in
-    record { sighted = sighted c.view.ensures a.tried.fit.cage a.tried.windows (event_subject v.mirror v.strict (family_of v.family) a.job a.lags.now (ap rule_of (sym c.in-Reservoir.is)) a.tried.subject) }
+    rw c.in-LagLower.is (cites_by_lower (on a) a.subject a.target c.args.x a.tried.fit t c.lag-in-LagLower.ensures.0 (rw c.has_failed-in-LagLower.ensures at c.lag_citing-in-LagLower.ensures))
 
 pub level_citing-requires : goal.level_citing-requires
 level_citing-requires c = λ w q. span_within (own_end (rule_of c.args.a.rule)) w (c.requires.range w q)
@@ -35,5 +28,6 @@ pub returns-in-Reservoir : goal.returns-in-Reservoir
 returns-in-Reservoir c =
     let a = c.args.a in
     let v = c.in-Reservoir.v in
+    let s = c.sight.ensures in
     let e = event_subject v.mirror v.strict (family_of v.family) a.job a.lags.now (ap rule_of (sym c.in-Reservoir.is)) a.tried.subject in
-    rw c.in-Reservoir.is (cites_by_side (on a) a.subject a.target c.args.x v.mirror v.strict (family_of v.family) e c.view.ensures c.level_citing.ensures)
+    rw c.in-Reservoir.is (cites_by_side (on a) a.subject a.target c.args.x v.mirror v.strict (family_of v.family) e s.0 (rw s.1 at c.level_citing.ensures))

@@ -21,6 +21,6 @@ returns c =
     let v = c.args.view in
     let e = v.subject in
     let r = first_in v in
-    let level : number_of (rule_of c.reservoir.result) ≡ r = ap number_of c.reservoir.ensures ∙ level_number v.stance.mirror v.stance.strict in
-    let time : number_of (rule_of c.reservoir-2.result) ≡ r + 1 = ap number_of c.reservoir-2.ensures ∙ time_number v.stance.mirror v.stance.strict in
+    let level : number_of (rule_of c.reservoir-level.result) ≡ r = ap number_of c.reservoir-level.ensures ∙ level_number v.stance.mirror v.stance.strict in
+    let time : number_of (rule_of c.reservoir-time.result) ≡ r + 1 = ap number_of c.reservoir-time.ensures ∙ time_number v.stance.mirror v.stance.strict in
     moves_from refl refl (made_both (λ j. try r e e ∷ []) (λ j. try (r + 1) e e ∷ []) (rw level at c.attempt.ensures) (rw time at c.attempt-2.ensures))
