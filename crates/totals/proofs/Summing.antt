@@ -9,10 +9,8 @@ use mathlib.Core.Bool.{or-false}
 use Rattle.std.proofs.Common.{add-zero, zero-add}
 use Rattle.std.specs.List.{list_any, range_with_len}
 use Rattle.std.proofs.lemmas.List.Folds.{list_any-append}
-use native.Mathlib.Numerals.{add-one, unary_clauses}
-use lib.ListN.{get_or}
 use lib.Dec.{T, eqb, eqb_refl}
-use lib.IntN.{ℤ, pos, nat_abs, neg_ℤ, ◌+ℤ◌}
+use lib.IntN.{ℤ, nat_abs}
 use Rattle.integers.specs.Range.{Within}
 use Rattle.integers.specs.Sum.{sum}
 use Rattle.integers.proofs.Linear.{ints, neg_law}
@@ -24,16 +22,6 @@ use Rattle.model.proofs.Totals.{few_members}
 use Rattle.model.proofs.Premises.{any_in}
 use Rattle.sets.specs.Sets.{word_at, count_at}
 use Rattle.totals.specs.Totals.{event_at, limit_at, Listed, Adds, SetOf}
-
--- ---- the loop
-
-pub sum_none : (f : ℕ → ℤ) → pos 0 ≡ sum 0 f
-unfolding sum
-sum_none f = refl
-
-pub sum_more : (f : ℕ → ℤ) (i : ℕ) {t h r : ℤ} → t ≡ sum i f → h ≡ f i → r ≡ t +ℤ h → r ≡ sum (i + 1) f
-unfolding sum
-sum_more f i p q r = rw (add-one i, ← p, ← q) r
 
 -- ---- ranges
 
@@ -95,12 +83,6 @@ pub listed : (j : Call) (g i : ℕ) → i < set_size j g → T (in_set j g (memb
 listed j g i l = any_in (set_size j g) i (λ k. eqb (member j g k) (member j g i)) l (eqb_refl (member j g i))
 
 -- ---- the limit on a side
-
-pub limit_mirror : (ws : List ℤ) (at : ℕ) {m : Bool} {v r : ℤ} → m ≡ true → v ≡ word_at ws at 1 → r ≡ neg_ℤ v → r ≡ limit_at m ws at
-limit_mirror ws at p q r = rw (p, ← q) r
-
-pub limit_plain : (ws : List ℤ) (at : ℕ) {m : Bool} {r : ℤ} → m ≡ false → r ≡ get_or ws at (pos 0) → r ≡ limit_at m ws at
-limit_plain ws at p q = rw p (simp unary_clauses q)
 
 pub limit_within : {ws : List ℤ} {at : ℕ} {W : Windows} (m : Bool) → Adds ws at W → Within (limit_at m ws at) 639936
 limit_within {ws} {at} true a = let h = a.most_range in omega (ints, neg_law (word_at ws at 1))
