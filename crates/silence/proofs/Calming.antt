@@ -8,14 +8,14 @@ use native.Mathlib.Decide.{ℕ_discrete}
 use native.Mathlib.Numerals.{add-one}
 use native.Mathlib.Omega.{arith}
 use lib.Dec.{T}
-use lib.IntN.{ℤ, pos, nat_abs, ◌+ℤ◌, ◌-ℤ◌}
+use lib.IntN.{ℤ, pos, ◌+ℤ◌, ◌-ℤ◌}
 use lib.Signed.{le_z, lt_z, ◌≤ℤ◌, le_z_yes}
 use Rattle.integers.specs.Range.{Within}
 use Rattle.integers.specs.Sum.{sum}
 use Rattle.integers.proofs.Linear.{ints, add_law}
 use Rattle.integers.proofs.Sums.{sum_le, sum_le_but}
 use Rattle.integers.proofs.Tests.{is_true, true_is, and_in, and_out}
-use Rattle.model.specs.Job.{t_min, t_max, h_min, h_max, Windows, ahead, produces, lag_word, Reservoir, Job, events, lag_a, lag_b, lag_d}
+use Rattle.model.specs.Job.{t_min, t_max, h_min, h_max, Windows, ahead, produces, Reservoir, Job, events, lag_a, lag_b, lag_d}
 use Rattle.model.specs.Standing.{Ranged}
 use Rattle.model.specs.View.{side_value, side, side_limit, View}
 use Rattle.model.specs.Levels.{placed, e_min, e_max, gain, gains, most_in, most}
@@ -292,11 +292,6 @@ all_calm_each n c W e d r l q =
     (and_in (floored true n c W e d) (le_z (W e t_min) (W e t_max)) g (ordered_each n W e l b.1)))
 
 -- ---- lags
-
-pub kept_at : (ws : List ℤ) (W : Windows) (g : ℕ) {a b : ℕ} {top low : ℤ} {x y : Bool} → a ≡ nat_abs (lag_word ws g 0) → b ≡ nat_abs (lag_word ws g 1) →
-    top ≡ W (nat_abs (lag_word ws g 1)) t_max +ℤ lag_word ws g 2 → low ≡ W (nat_abs (lag_word ws g 0)) t_min -ℤ lag_word ws g 2 →
-    x ≡ (le_z (W a t_min) top && le_z (W a t_max) top) → y ≡ (le_z low (W b t_max) && le_z low (W b t_min)) → (x && y) ≡ lag_kept ws W g
-kept_at ws W g a b top low p q = rw (p, q, top, low, a, b)
 
 pub lag_idle : (j : Job) (W : Windows) (g : ℕ) → lag_kept j.lag_table W g ≡ true → Idle lag_upper j W g (lag_a j g) × Idle lag_lower j W g (lag_b j g)
 unfolding finding
