@@ -27,7 +27,6 @@ use Rattle.silence.proofs.Sparing.{still_idle, none_moves}
 use Rattle.silence.proofs.Calming.{reached_apart, calm_quiet, all_calm_each, lag_idle}
 use Rattle.rules.specs.Numbers.{number_of}
 use Rattle.rounds.specs.State.{room, state_of, fixed, Of, Moves, Made}
-use Rattle.rounds.specs.Attempts.{Tried}
 use Rattle.rounds.specs.Sweeps.{first_of, Seen, Leaves, two_attempts, events_attempts}
 use Rattle.rounds.specs.declared.Log.{Log}
 use Rattle.rounds.specs.declared.CageJob.{CageJob}
@@ -104,10 +103,6 @@ module _ {f : Call → State → State} {k : CageJob} {l : Log} {k' : CageJob} {
 
   pub there_next : e < k.job.events → e < k'.job.events
   there_next l = rw (job_is m.stays) l
-
--- They are tried at any event, and those of a lag at its events.
-pub tries_event : (k : CageJob) (m b : Bool) (f : Family) {e y : ℕ} → e < k.job.events → y < k.job.events → Tried k (reservoir m b f) e y
-tries_event k m b f l t = record { fit = k.fit; windows = k.held.ranged; subject = l; target = t }
 
 -- ---- what does nothing on the board does nothing to the table
 

@@ -6,13 +6,12 @@ use borrow.Author.Tests.{not-true}
 use native.Mathlib.Omega.{arith}
 use Rattle.model.specs.Job.{h_min, h_max, Job as Call}
 use Rattle.model.specs.Agenda.{Attempt, try}
-use Rattle.model.specs.Rules.{height}
 use Rattle.rules.specs.Values.{rule_of}
 use Rattle.rules.specs.Numbers.{number_of}
 use Rattle.rounds.specs.Sweeps.{first_of}
 use Rattle.levels.proofs.Viewing.{sighted, subject_is}
 use Rattle.rounds.proofs.Moves.{moves_from, made_none, made_on}
-use Rattle.rounds.proofs.Passing.{height_number, sees_height, seen_next, there_next, tries_event, targets_passed, target_passed, leaves_on}
+use Rattle.rounds.proofs.Passing.{height_number, sees_height, seen_next, there_next, targets_passed, target_passed, leaves_on}
 use Rattle.rounds.proofs.CageJob.all_targets.Goals as goal
 use Rattle.rounds.proofs.CageJob.all_targets.Goals.{then-is_moved, else-is_moved}
 
@@ -44,12 +43,6 @@ is_moved-requires c =
     let few = c.args.self.now.held.ranged.few in
     let real = there_next c.loop-y.invariant.0 c.loop-y-test.true in
     (rw (subject_is c.view_at-view.ensures) (omega arith), omega arith, k.held.ranged.range c.loop-y.y real h_min, k.held.ranged.range c.loop-y.y real h_max)
-
-pub attempt-requires : goal.attempt-requires
-attempt-requires c =
-    let k = c.loop-y.self in
-    let m = c.loop-y.invariant.0 in
-    rw c.reservoir-r.ensures (tries_event k c.args.mirror c.args.strict height (there_next m c.requires) (there_next m c.loop-y-test.true))
 
 pub loop-y-preserved : goal.loop-y-preserved
 loop-y-preserved c =
