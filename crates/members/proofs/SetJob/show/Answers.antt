@@ -14,11 +14,6 @@ member-requires c =
     let size = c.args.self.now.placed.size in
     (omega (arith, a.inside), a.sign c.loop-i.i (omega arith))
 
-pub show_event-requires : goal.show_event-requires
-show_event-requires c =
-    let a = set_adds c.args.self.now in
-    rw c.member.ensures (a.0.real c.loop-i.i (omega (arith, a.1)))
-
 pub loop-i-preserved : goal.loop-i-preserved
 loop-i-preserved c =
     let k = c.args.self.now in
