@@ -5,14 +5,6 @@ use Rattle.model.specs.Job.{cage_at}
 use Rattle.judging.proofs.Seating.{none_masked, tries_own, gives_home}
 use Rattle.judging.proofs.giving.home_gives.Goals as goal
 
-pub rule_gives-requires : goal.rule_gives-requires
-rule_gives-requires c =
-    let a = c.args in
-    let p = c.requires in
-    let W = board a.b.now.words in
-    let home = c.cage_at.ensures ∙ ap (cage_at a.c.now.cages.now) c.cage_of.ensures in
-    tries_own a.c.now W W a.s.now p c.cage_at.result home (none_masked a.c.now p.seated c.if-c-eq4.true a.s.now.subject p.event W)
-
 pub returns-then-c-eq4 : goal.returns-then-c-eq4
 returns-then-c-eq4 c =
     let a = c.args in
