@@ -24,9 +24,6 @@ not_true false t = refl
 pub true_is : {b : Bool} → b ≡ true → T b
 true_is e = subst T (sym e) tt
 
-pub false_is : {b : Bool} → b ≡ false → T (not b)
-false_is e = subst (λ x. T (not x)) (sym e) tt
-
 pub and_out : (a b : Bool) → T (a && b) → T a × T b
 and_out true true t = (tt, tt)
 and_out true false t = absurd t
@@ -55,10 +52,3 @@ same_test true true f g = refl
 same_test true false f g = absurd (f tt)
 same_test false true f g = absurd (g tt)
 same_test false false f g = refl
-
--- a flag that is both tests, where the first holds, and where it does not
-pub and_yes : (a b : Bool) {r : Bool} → a ≡ true → r ≡ b → r ≡ (a && b)
-and_yes a b e f = rw e f
-
-pub and_no : (a b : Bool) {r : Bool} → a ≡ false → r ≡ false → r ≡ (a && b)
-and_no a b e f = rw e f

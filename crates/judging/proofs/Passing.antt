@@ -143,15 +143,3 @@ pub facts_fit : (c : Call) → Sits c → (s : Named) → T (names (job_of c) (e
 facts_fit c seated s t =
     let few = seated.sane.few_events in
     fit_wide (events (job_of c)) (explanation_of s.slip).premises few (named (job_of c) (explanation_of s.slip) t).premises_real
-
--- The two numbers of the header are not negative.
-first_two : (a b c d e : Bool) → T (a && b && c && d && e) → T a × T b
-first_two true true c d e t = (tt, tt)
-first_two true false c d e t = absurd t
-first_two false b c d e t = absurd t
-
-pub header_signs : (j : model.Job) (x : Explanation) → T (names j x) → T (le_z (pos 0) x.subject) × T (le_z (pos 0) x.target)
-unfolding names
-header_signs j x t =
-    let o = first_two (is_event (subjects (model_slips.rule_of x) j) x.subject) (is_event (events j) x.target) (premises_fit (events j) x.premises) (target_fits (model_slips.rule_of x) j (subject_of x) (target_of x)) (kind_fits (model_slips.rule_of x) x.kind x.value) t in
-    ((event_is (subjects (model_slips.rule_of x) j) x.subject o.0).1, (event_is (events j) x.target o.1).1)

@@ -114,10 +114,6 @@ module _ {f : Call → State → State} {k : CageJob} {l : Log} {k' : CageJob} {
   pub there_next : {e : ℕ} → e < k.job.events → e < k'.job.events
   there_next l = rw (job_is m.stays) l
 
--- They are tried at any event, and those of a lag at its events.
-pub tries_event : (k : CageJob) (m b : Bool) (f : Family) {e y : ℕ} → e < k.job.events → y < k.job.events → Tried k (reservoir m b f) e y
-tries_event k m b f l t = record { fit = k.fit; windows = k.held.ranged; subject = l; target = t }
-
 -- ---- what does nothing on the board does nothing to the table
 
 module _ (k : CageJob) where

@@ -6,7 +6,7 @@ use mathlib.Core.List.{List, [], ◌∷◌}
 use Prim.Native.Nat.{ℕ, zero, suc, ◌+◌, ◌*◌, ◌≤◌, ◌<◌}
 use native.Mathlib.Decide.{ℕ_discrete}
 use native.Mathlib.Omega.{arith}
-use borrow.Author.Tests.{le-leb, lt-leb, not-true, not-false}
+use borrow.Author.Tests.{lt-leb, not-true, not-false}
 use lib.IntN.{ℤ}
 use lib.ListN.{length, take, drop, set, length-set}
 use lib.Seq.{length-take-le}
@@ -40,7 +40,7 @@ use Rattle.slips.specs.Telling.{written_by, Writable}
 use Rattle.slips.proofs.Filling.{same_premises}
 use Rattle.rounds.specs.Held.{Held}
 use Rattle.rounds.specs.State.{status_of, still, room, state_at, state_of, Leads, fixed, Of, Moves, Made}
-use Rattle.rounds.specs.Attempts.{stored, table_after, status_after, written, Counted, Entered, Tried, Found}
+use Rattle.rounds.specs.Attempts.{stored, table_after, status_after, written, Entered, Tried, Found}
 use Rattle.rounds.specs.declared.Status.TheVariants.{Stopped}
 use Rattle.rounds.specs.declared.Log.{Log}
 use Rattle.rounds.specs.declared.CageJob.{CageJob}
@@ -183,22 +183,9 @@ module _ {n : ℕ} (b : List ℤ) (k : End) (y : ℕ) (w : Whole b) (few : n ≤
 room_no : (room : ℕ) (log slip : List ℤ) (used m : ℕ) → length log ≡ used → length slip ≡ 7 + 3 * m → room < used + (10 + 3 * m) → fits room log slip ≡ false
 room_no room log slip used m p q h = lt-leb (length log + length slip + 3) room (omega arith)
 
-room_yes : (room : ℕ) (log slip : List ℤ) (used m : ℕ) → length log ≡ used → length slip ≡ 7 + 3 * m → used + (10 + 3 * m) ≤ room → fits room log slip ≡ true
-room_yes room log slip used m p q h = le-leb (length log + length slip + 3) room (omega arith)
-
 state_is : {table table' log log' : List ℤ} {slips slips' last last' : ℕ} {s s' : model.Status} → table ≡ table' → log ≡ log' → slips ≡ slips' → last ≡ last' → s ≡ s'
     → ◌≡◌ {A = State} (record { table = table; log = log; slips = slips; last = last; status = s }) (record { table = table'; log = log'; slips = slips'; last = last'; status = s' })
 state_is p q o l t = rw (p, q, o, l, t)
-
--- A slip that is written does not stop the call.
-written_after : (x : Effect) → written (status_after x) ≡ true
-written_after idle = refl
-written_after (narrows v) = refl
-written_after fails = refl
-
--- Words appended are so in the buffer by another name.
-pub appended_as : {at end : ℕ} {words before buffer x : List ℤ} → x ≡ buffer → Appended at words before buffer end → Appended at words before x end
-appended_as e a = rw e a
 
 module _ (h : Header) (q : Quoting) (l : Log) (writable : Writable h q) where
   abbrev slip : Explanation
@@ -236,22 +223,6 @@ module _ (h : Header) (q : Quoting) (l : Log) (writable : Writable h q) where
     -- It fits and is written.
     pub slip_place : {words : List ℤ} {end : ℕ} → l.used + (10 + 3 * m) ≤ room l → Appended l.used (slip_words slip) l.buffer.now words end → (l.used + 7 ≤ end) × (end + 3 ≤ room l)
     slip_place fit a = (omega (arith, long, a.place), omega (arith, long, a.place))
-
-    pub slip_entered : {end : ℕ} {l₁ l' : Log} → l.used + (10 + 3 * m) ≤ room l → Appended l.used (slip_words slip) l.buffer.now l₁.buffer.now end → (l₁.buffer.ghost_name ≡ l.buffer.ghost_name) × (l₁.used ≡ l.used) × (l₁.slips ≡ l.slips)
-        → Counted end (status_after (effect_of h.effect)) l₁ l' → Entered slip (status_after (effect_of h.effect)) l l'
-    slip_entered {end} {l₁} {l'} fit a g k =
-        let yes = room_yes (room l) (take l.used l.buffer.now) (slip_words slip) l.used m log_size long fit in
-        let went = ap written k.status ∙ written_after (effect_of h.effect) in
-        record {
-          is = λ t u. state_is (ap (λ b. cond b u t) went) (ap (take l'.used) k.words ∙ ap (λ i. take i l₁.buffer.now) k.used ∙ a.is) (k.slips ∙ ap (λ i. i + 1) g.2) (k.last ∙ g.1 ∙ sym log_size) k.status ∙ rw yes;
-          grown = record {
-            lent = k.lent ∙ g.0;
-            same = ap length k.words ∙ a.same;
-            after = rw (k.used, k.words) a.rest;
-            longer = omega (arith, long, a.place, k.used);
-            more = omega (arith, k.slips, g.2);
-          };
-        }
 
 -- ---- the slip entered and the new end stored
 

@@ -1,7 +1,7 @@
 -- A slip's facts counted and appended to a buffer, as `slips::writing` does it.
 -- Assumes nothing.
 use mathlib.Core.Path.{◌≡◌, refl, sym, ap, ap₂, subst, ◌∙◌}
-use mathlib.Core.Bool.{Bool, true, false, not, cond, ◌&&◌}
+use mathlib.Core.Bool.{Bool, true, false, cond, ◌&&◌}
 use mathlib.Core.List.{List, [], ◌∷◌, ◌++◌, append_assoc, append-nil}
 use mathlib.Core.Logic.{⊎_elim}
 use Prim.Native.Nat.{ℕ, zero, suc, ◌+◌, ◌*◌, ◌-◌, ◌<◌, ◌≤◌}
@@ -21,7 +21,6 @@ use Rattle.model.specs.Job.{End, t_min, t_max, h_min, h_max, Windows, Job as Cal
 use Rattle.model.specs.Rules.{Rule, Effect, total}
 use Rattle.model.specs.Facts.{quotes, quoted}
 use Rattle.model.specs.Slips.{Premise, number, premise_words, quote, premise_list}
-use Rattle.tables.specs.Ends.{end_of}
 use Rattle.tables.specs.Job.{Serves}
 use Rattle.tables.specs.declared.Job.{Job}
 use Rattle.tables.specs.declared.ends.Word.{Word}
@@ -32,9 +31,8 @@ use Rattle.facts.specs.declared.LagCiting.{LagCiting}
 use Rattle.facts.specs.declared.Citing.{Citing}
 use Rattle.slips.specs.Words.{Appended}
 use Rattle.slips.specs.Writing.{HasRoom, Wrote}
-use Rattle.slips.specs.Telling.{told, told_by, premises_of, told_by_lag}
+use Rattle.slips.specs.Telling.{told, premises_of, told_by_lag}
 use Rattle.slips.specs.declared.writer.Writer.{Writer}
-use Rattle.slips.specs.declared.writing.EventFacts.{EventFacts}
 
 -- ---- appended words
 appended_none : (at : ℕ) (d : List ℤ) → Appended at [] d d at
@@ -91,23 +89,6 @@ room_first xs ys s h = omega (arith, length-append xs ys)
 pub told_quote : (t : Bool) (z : ℕ) (k : End) {w : Word} {o : Option Word} {v : ℤ} → o ≡ then_some t w → w.0 ≡ v → told z k o ≡ quote t z k v
 told_quote true z k e f = rw (e, f)
 told_quote false z k e f = rw e
-
-told_height : (m t : Bool) (z : ℕ) (w : Word) (a b : ℤ) → w.0 ≡ cond m a b → told z (cond m h_min h_max) (then_some t w) ≡ quote (m && t) z h_min a ++ quote (not m && t) z h_max b
-told_height true true z w a b e = rw e
-told_height true false z w a b e = refl
-told_height false true z w a b e = rw e
-told_height false false z w a b e = refl
-
-height_word : (m : Bool) (W : Windows) (z : ℕ) → W z (cond m h_min h_max) ≡ cond m (W z h_min) (W z h_max)
-height_word true W z = refl
-height_word false W z = refl
-
--- An event's facts, quoted by three tests.
-pub told_event : (m l u t : Bool) (z : ℕ) (W : Windows) (f : EventFacts) {a b w : Word} {x y : ℤ} → end_of f.end ≡ cond m h_min h_max → f.lower ≡ then_some l a → a.0 ≡ x → f.upper ≡ then_some u b → b.0 ≡ y → f.height ≡ then_some t w → w.0 ≡ W z (end_of f.end) →
-    told_by z f ≡ quote l z t_min x ++ (quote u z t_max y ++ (quote (m && t) z h_min (W z h_min) ++ quote (not m && t) z h_max (W z h_max)))
-told_event m l u t z W f {w = w} k p a q b r h =
-    let g : w.0 ≡ cond m (W z h_min) (W z h_max) = h ∙ rw k (height_word m W z) in
-    rw (told_quote l z t_min p a, told_quote u z t_max q b, r, k, told_height m t z w (W z h_min) (W z h_max) g)
 
 -- ---- all events
 module _ (c : ℕ → End → Bool) (v : ℕ → End → ℤ) where

@@ -1,11 +1,8 @@
 use native.Mathlib.Omega.{arith}
-use mathlib.Core.Path.{refl, sym, ◌∙◌}
+use mathlib.Core.Path.{sym, ◌∙◌}
 use Rattle.cages.proofs.Masking.{joined_own, joined_other}
 use Rattle.cages.proofs.Home.join.Goals as goal
 use Rattle.cages.proofs.Home.join.Goals.{then-holds, else-holds}
-
-pub loop-y-init : goal.loop-y-init
-loop-y-init c = (c.args.b.now.whole, λ z l k. absurd (omega arith), λ z l h k. refl)
 
 pub loop-y-preserved : goal.loop-y-preserved
 loop-y-preserved c =

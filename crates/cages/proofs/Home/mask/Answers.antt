@@ -2,9 +2,6 @@ use native.Mathlib.Omega.{arith}
 use Rattle.cages.proofs.Masking.{masked_more}
 use Rattle.cages.proofs.Home.mask.Goals as goal
 
-pub loop-y-init : goal.loop-y-init
-loop-y-init c = (c.args.s.now.whole, λ z l k. absurd (omega arith))
-
 pub loop-y-preserved : goal.loop-y-preserved
 loop-y-preserved c =
     let l = c.loop-y in

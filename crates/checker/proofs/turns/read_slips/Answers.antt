@@ -1,6 +1,6 @@
 use Rattle.std.proofs.Common.{◌≡◌, arith, rules}
 use Rattle.std.proofs.lemmas.Result.{err_from_is_err_and}
-use Rattle.checker.proofs.Looping.{begins, ready, refuses, goes_on, finishes, err_mapped, ok_mapped}
+use Rattle.checker.proofs.Looping.{ready, refuses, goes_on, finishes, err_mapped, ok_mapped}
 use Rattle.checker.proofs.turns.read_slips.Goals as goal
 
 pub loop-i-init : goal.loop-i-init

@@ -6,7 +6,6 @@ use borrow.Author.Tests.{not-true}
 use native.Mathlib.Omega.{arith}
 use Rattle.model.specs.Job.{h_min, h_max, Job as Call}
 use Rattle.model.specs.Agenda.{Attempt, try}
-use Rattle.model.specs.Rules.{height}
 use Rattle.rules.specs.Values.{rule_of}
 use Rattle.rules.specs.Numbers.{number_of}
 use Rattle.rounds.specs.Sweeps.{first_in}

@@ -2,7 +2,7 @@
 use mathlib.Core.Path.{refl}
 use Rattle.std.proofs.Common.{rules}
 use native.Mathlib.Omega.{arith}
-use Rattle.rounds.proofs.Trying.{few_facts, stop_entered, slip_place, appended_as, slip_entered}
+use Rattle.rounds.proofs.Trying.{few_facts, stop_entered, slip_place}
 use Rattle.rounds.proofs.Log.enter.Goals as goal
 
 pub count-requires : goal.count-requires
@@ -10,12 +10,6 @@ count-requires c =
     let a = c.args in
     let few = few_facts a.header a.facts.now a.self.now c.requires in
     let at = slip_place a.header a.facts.now a.self.now c.requires refl (omega arith) c.put_slip.ensures.words.appended in (omega arith, search rules)
-
-pub returns-then-list-room : goal.returns-then-list-room
-returns-then-list-room c =
-    let a = c.args in
-    let few = few_facts a.header a.facts.now a.self.now c.requires in
-    slip_entered a.header a.facts.now a.self.now c.requires refl (omega arith) (appended_as (search rules) c.put_slip.ensures.words.appended) (refl, refl, refl) c.count.ensures
 
 pub slip_length-requires : goal.slip_length-requires
 slip_length-requires c = omega (arith, few_facts c.args.header c.args.facts.now c.args.self.now c.requires)
@@ -34,8 +28,3 @@ pub count-requires-2 : goal.count-requires-2
 count-requires-2 c =
     let a = c.args in
     let at = slip_place a.header a.facts.now a.self.now c.requires c.count-count.ensures (omega arith) c.append_slip.ensures.words.appended in (omega arith, search rules)
-
-pub returns : goal.returns
-returns c =
-    let a = c.args in
-    slip_entered a.header a.facts.now a.self.now c.requires c.count-count.ensures (omega arith) (appended_as (search rules) c.append_slip.ensures.words.appended) (refl, refl, refl) c.count-2.ensures

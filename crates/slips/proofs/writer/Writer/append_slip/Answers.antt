@@ -12,13 +12,6 @@ put_head-requires c =
     let count = c.requires.1 in
     (omega (arith, c.requires.2), p.subject, p.target, omega arith)
 
-pub put_facts-requires : goal.put_facts-requires
-put_facts-requires c =
-    let p = c.requires.0 in
-    let count = c.requires.1 in
-    let w = c.put_head.ensures.words.appended in
-    (record { ranged = p.ranged; known = p.known }, omega (arith, c.requires.2))
-
 pub put_length-requires : goal.put_length-requires
 put_length-requires c =
     let few = few_facts c.args.q.now.cited c.requires.0.ranged in
