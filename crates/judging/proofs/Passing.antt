@@ -3,7 +3,7 @@
 use mathlib.Core.Path.{◌≡◌, refl, ap, ◌∙◌}
 use mathlib.Core.List.{List}
 use Prim.Native.Nat.{ℕ}
-use mathlib.Core.Bool.{Bool, true, false, cond, ◌&&◌}
+use mathlib.Core.Bool.{Bool, true, false, cond}
 use Prim.Native.Nat.{◌<◌, ◌≤◌}
 use native.Mathlib.Omega.{arith}
 use lib.Dec.{T}
@@ -15,15 +15,13 @@ use Rattle.model.specs.Job as model
 use Rattle.model.specs.Job.{End, t_min, t_max, h_min, h_max, meets, Windows, windows, produces, Inside, events, begun}
 use Rattle.model.specs.Standing.{span, Ranged}
 use Rattle.model.specs.Rules.{Finding, lag_upper, lag_lower, total, finding, own_end, effect, failed, subjects, target_fits}
-use Rattle.model.specs.Slips.{Premise, Explanation, subject_of, target_of}
-use Rattle.model.specs.Questions.{is_event}
-use Rattle.model.specs.Reader.{names, premises_fit, kind_fits, all_true, narrowed, as_strict, gives}
+use Rattle.model.specs.Slips.{Premise}
+use Rattle.model.specs.Reader.{names, premises_fit, all_true, narrowed, as_strict, gives}
 use Rattle.model.proofs.Agree.{gives_agree}
 use Rattle.model.proofs.Order.{inside_narrowed, narrowed_in}
 use Rattle.model.proofs.Sound.{named}
 use Rattle.tables.specs.Job.{Kinds, Fit}
 use Rattle.totals.proofs.Summing.{adds_at}
-use Rattle.model.specs.Slips as model_slips
 use Rattle.rules.specs.Values.{variant_of, rule_of, Tries}
 use Rattle.rules.specs.declared.Variant.{Variant}
 use Rattle.rules.proofs.Numbering.{rule_number}
@@ -31,7 +29,7 @@ use Rattle.slips.specs.Slip.{headed, explanation_of}
 use Rattle.judging.specs.Ready.{job_of, Sits, Sought, AtHome, Totalled, Belongs, Same}
 use Rattle.judging.specs.declared.Call.{Call}
 use Rattle.judging.specs.declared.Named.{Named}
-use Rattle.judging.proofs.Asking.{events_are, event_is}
+use Rattle.judging.proofs.Asking.{events_are}
 use Rattle.judging.proofs.Facts.{fit_wide}
 
 -- ---- ranges and deliveries

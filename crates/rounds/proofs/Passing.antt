@@ -29,7 +29,6 @@ use Rattle.silence.proofs.Sparing.{still_idle, none_moves}
 use Rattle.silence.proofs.Calming.{reached_apart, calm_quiet, all_calm_each, lag_idle}
 use Rattle.rules.specs.Numbers.{number_of}
 use Rattle.rounds.specs.State.{room, state_of, fixed, Of, Moves, Made}
-use Rattle.rounds.specs.Attempts.{Tried}
 use Rattle.rounds.specs.Sweeps.{first_of, first_in, Seen, Looks, Leaves, two_attempts, events_attempts}
 use Rattle.rounds.specs.declared.Log.{Log}
 use Rattle.rounds.specs.declared.CageJob.{CageJob}

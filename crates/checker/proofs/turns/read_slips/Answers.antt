@@ -3,9 +3,6 @@ use Rattle.std.proofs.lemmas.Result.{err_from_is_err_and}
 use Rattle.checker.proofs.Looping.{ready, refuses, goes_on, finishes, err_mapped, ok_mapped}
 use Rattle.checker.proofs.turns.read_slips.Goals as goal
 
-pub loop-i-init : goal.loop-i-init
-loop-i-init c = begins c.requires
-
 pub take_slip-requires : goal.take_slip-requires
 take_slip-requires c =
     let l = c.loop-i.invariant in

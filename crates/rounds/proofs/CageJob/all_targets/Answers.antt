@@ -10,7 +10,7 @@ use Rattle.rules.specs.Values.{rule_of}
 use Rattle.rules.specs.Numbers.{number_of}
 use Rattle.rounds.specs.Sweeps.{first_in}
 use Rattle.rounds.proofs.Moves.{moves_from, made_none, made_on}
-use Rattle.rounds.proofs.Passing.{height_number, sees_height, looks_next, there_next, tries_event, targets_passed, target_passed, leaves_on}
+use Rattle.rounds.proofs.Passing.{height_number, sees_height, looks_next, there_next, targets_passed, target_passed, leaves_on}
 use Rattle.rounds.proofs.CageJob.all_targets.Goals as goal
 use Rattle.rounds.proofs.CageJob.all_targets.Goals.{then-is_moved, else-is_moved}
 
@@ -35,13 +35,6 @@ is_moved-requires c =
     let subject = c.requires.subject in
     let real = there_next c.loop-y.invariant.0 c.loop-y-test.true in
     (omega arith, omega arith, k.held.ranged.range c.loop-y.y real h_min, k.held.ranged.range c.loop-y.y real h_max)
-
-pub attempt-requires : goal.attempt-requires
-attempt-requires c =
-    let k = c.loop-y.self in
-    let m = c.loop-y.invariant.0 in
-    let s = c.args.view.stance in
-    rw c.reservoir-r.ensures (tries_event k s.mirror s.strict height (there_next m c.requires.subject) (there_next m c.loop-y-test.true))
 
 pub loop-y-preserved : goal.loop-y-preserved
 loop-y-preserved c =
