@@ -50,13 +50,6 @@ own_range x w = go (produces x)
 pub drain_within : {n : ℕ} {W : Windows} (y : ℕ) → Ranged n W → y < n → Within (drain W y) 9999
 drain_within {n} {W} y r l = own_range (W y h_max) (r.range y l h_max)
 
-pub larger_within : (a b : ℤ) {r : ℤ} {k : ℕ} → r ≡ larger a b → Within a k → Within b k → Within r k
-larger_within a b {r} {k} e v w = rw e (go (lt_z a b))
-  where
-    go : (t : Bool) → Within (cond t b a) k
-    go true = w
-    go false = v
-
 pub spread_none : (W : Windows) → pos 0 ≡ spread_of 0 W
 unfolding spread_of
 spread_none W = refl

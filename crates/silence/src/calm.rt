@@ -136,6 +136,7 @@ impl OneCage<'_> {
 // ---- the largest width
 
 // The largest width of an amount window, at least 0.
+#[tactic(auto, using(crate::proofs::Calming::spread_none, crate::proofs::Calming::spread_more))]
 pub fn spread(b: &Board, n: usize) -> Height
     requires { Ranged n (board b.now.words) }
     ensures { (result.0 ≡ spread_of n (board b.now.words)) × Within result.0 20000 }
