@@ -29,25 +29,25 @@ pub fn placed(own: bool, strict: bool, surely: bool, possibly: bool) -> Place
 }
 
 // y's h_max on a side: the job as it stands, or its mirror.
-pub fn side_h_max(b: &Board, m: bool, y: usize) -> Height
+pub fn side_h_max(b: &Board, mirror: bool, y: usize) -> Height
     requires { (y < 64) × Within (board b.now.words y h_min) 9999 }
-    ensures { result.0 ≡ side m (board b.now.words) y h_max }
+    ensures { result.0 ≡ side mirror (board b.now.words) y h_max }
 {
-    if m { -b.h_min(y) } else { b.h_max(y) }
+    if mirror { -b.h_min(y) } else { b.h_max(y) }
 }
 
 // Of a least and a most, the limit of a side: the least, in the mirror the most negated.
-pub fn side_limit(m: bool, least: Height, most: Height) -> Height
+pub fn side_limit(mirror: bool, least: Height, most: Height) -> Height
     requires { Within most.0 10000000 }
-    ensures { result.0 ≡ cond m (neg_ℤ most.0) least.0 }
+    ensures { result.0 ≡ cond mirror (neg_ℤ most.0) least.0 }
 {
-    if m { -most } else { least }
+    if mirror { -most } else { least }
 }
 
 // An amount turned to the other side, or back.
-pub fn side_height(m: bool, h: Height) -> Height
+pub fn side_height(mirror: bool, h: Height) -> Height
     requires { Within h.0 10000000 }
-    ensures { result.0 ≡ side_value m h_min h.0 }
+    ensures { result.0 ≡ side_value mirror h_min h.0 }
 {
-    if m { -h } else { h }
+    if mirror { -h } else { h }
 }

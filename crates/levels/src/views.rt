@@ -14,19 +14,19 @@ use crate::{Place, Stance, View};
 use tables::{Board, Height, Reservoir, Time, Word};
 
 // The limit of a side of a cage: of Lmin and Lmax.
-pub fn cage_limit(m: bool, c: Reservoir) -> Height
+pub fn cage_limit(mirror: bool, c: Reservoir) -> Height
     requires { SaneCage (reservoir_of c) }
-    ensures { result.0 ≡ side_limit m (reservoir_of c) }
+    ensures { result.0 ≡ side_limit mirror (reservoir_of c) }
 {
-    side_limit(m, c.low, c.high)
+    side_limit(mirror, c.low, c.high)
 }
 
 // The opening stock of a side: Q, in the mirror negated.
-pub fn side_opening(m: bool, c: Reservoir) -> Height
+pub fn side_opening(mirror: bool, c: Reservoir) -> Height
     requires { SaneCage (reservoir_of c) }
-    ensures { result.0 ≡ side_value m h_max (reservoir_of c).initial }
+    ensures { result.0 ≡ side_value mirror h_max (reservoir_of c).initial }
 {
-    side_height(m, c.initial)
+    side_height(mirror, c.initial)
 }
 
 // Cover 0: do deliveries count later?
@@ -38,20 +38,20 @@ fn counts_later(c: Reservoir) -> bool
 
 impl View {
     // The view at e of a side, before (strict) or by, in a job of n events and this cage.
-    pub fn at(c: Reservoir, n: usize, m: bool, strict: bool, e: usize) -> View
+    pub fn at(c: Reservoir, n: usize, mirror: bool, strict: bool, e: usize) -> View
         requires { SaneCage (reservoir_of c) }
-        ensures { Views n (reservoir_of c) m strict e result }
+        ensures { Views n (reservoir_of c) mirror strict e result }
     {
         View {
             subject: e,
             events: n,
             stance: Stance {
-                mirror: m,
+                mirror,
                 strict,
                 later: counts_later(c),
             },
-            limit: cage_limit(m, c),
-            opening: side_opening(m, c),
+            limit: cage_limit(mirror, c),
+            opening: side_opening(mirror, c),
         }
     }
 

@@ -36,45 +36,45 @@ pub fn reaches_early(s: Sight) -> bool
 // ---- rules 3 to 14
 
 // What y adds at least: a delivery that begins before u, all else that ends by u.
-fn floor_gain(b: &Board, m: bool, u: Time, y: usize) -> Height
+fn floor_gain(b: &Board, mirror: bool, u: Time, y: usize) -> Height
     requires { (y < 64) × Within (board b.now.words y h_min) 9999 }
-    ensures { result.0 ≡ floor_gain (side m (board b.now.words)) u.0 y }
+    ensures { result.0 ≡ floor_gain (side mirror (board b.now.words)) u.0 y }
 {
     let early = b.t_min(y) < u;
     let gone = b.t_max(y) <= u;
-    let h = side_h_max(b, m, y);
+    let h = side_h_max(b, mirror, y);
     let made = h.produces();
     h.kept(made & early | !made & gone)
 }
 
 // The opening stock q and what all events add at least.
-fn floor_gains(b: &Board, n: usize, q: Height, m: bool, u: Time) -> Height
+fn floor_gains(b: &Board, n: usize, q: Height, mirror: bool, u: Time) -> Height
     requires { Ranged n (board b.now.words) × Within q.0 1000000 }
-    ensures { result.0 ≡ q.0 +ℤ sum n (floor_gain (side m (board b.now.words)) u.0) }
+    ensures { result.0 ≡ q.0 +ℤ sum n (floor_gain (side mirror (board b.now.words)) u.0) }
 {
-    added(n, q, |y| floor_gain(b, m, u, y))
+    added(n, q, |y| floor_gain(b, mirror, u, y))
 }
 
 // What y takes at most.
-fn drain(b: &Board, m: bool, y: usize) -> Height
+fn drain(b: &Board, mirror: bool, y: usize) -> Height
     requires { (y < 64) × Within (board b.now.words y h_min) 9999 }
-    ensures { result.0 ≡ drain (side m (board b.now.words)) y }
+    ensures { result.0 ≡ drain (side mirror (board b.now.words)) y }
 {
-    let h = side_h_max(b, m, y);
+    let h = side_h_max(b, mirror, y);
     h.kept(!h.produces())
 }
 
 impl OneCage<'_> {
     // Does the floor at e lie over the limit of a side by d?
-    fn is_floored(self, m: bool, e: usize, d: Height) -> bool
+    fn is_floored(self, mirror: bool, e: usize, d: Height) -> bool
         requires { (e < self.job.events) × Within d.0 20000 }
-        ensures { result ≡ floored m self.entry.job.events (reservoir_of self.entry.job.reservoir) (board self.entry.board.now.words) e d.0 }
+        ensures { result ≡ floored mirror self.entry.job.events (reservoir_of self.entry.job.reservoir) (board self.entry.board.now.words) e d.0 }
     {
         let b = self.board;
         let c = self.job.reservoir;
-        let all = floor_gains(b, self.job.events, side_opening(m, c), m, b.t_min(e));
-        let floor = all + drain(b, m, e);
-        cage_limit(m, c) + d <= floor
+        let all = floor_gains(b, self.job.events, side_opening(mirror, c), mirror, b.t_min(e));
+        let floor = all + drain(b, mirror, e);
+        cage_limit(mirror, c) + d <= floor
     }
 
     // Does it do so on both sides?
@@ -90,11 +90,11 @@ impl OneCage<'_> {
 // ---- rules 3 to 14 at every event
 
 // The opening stock q less all that events can take.
-fn drained(b: &Board, n: usize, q: Height, m: bool) -> Height
+fn drained(b: &Board, n: usize, q: Height, mirror: bool) -> Height
     requires { Ranged n (board b.now.words) × Within q.0 1000000 }
-    ensures { result.0 ≡ q.0 +ℤ sum n (drain (side m (board b.now.words))) }
+    ensures { result.0 ≡ q.0 +ℤ sum n (drain (side mirror (board b.now.words))) }
 {
-    added(n, q, |y| drain(b, m, y))
+    added(n, q, |y| drain(b, mirror, y))
 }
 
 // Does no event end before it begins? The loop has no branch: `all` would stop at the first that does, and go event by event.
@@ -111,13 +111,13 @@ fn are_ordered(b: &Board, n: usize) -> bool
 
 impl OneCage<'_> {
     // Does that lie over the limit of a side by d?
-    fn is_deep(self, m: bool, d: Height) -> bool
+    fn is_deep(self, mirror: bool, d: Height) -> bool
         requires { Within d.0 30000 }
-        ensures { result ≡ deep m self.entry.job.events (reservoir_of self.entry.job.reservoir) (board self.entry.board.now.words) d.0 }
+        ensures { result ≡ deep mirror self.entry.job.events (reservoir_of self.entry.job.reservoir) (board self.entry.board.now.words) d.0 }
     {
         let c = self.job.reservoir;
-        let least = drained(self.board, self.job.events, side_opening(m, c), m);
-        cage_limit(m, c) + d <= least
+        let least = drained(self.board, self.job.events, side_opening(mirror, c), mirror);
+        cage_limit(mirror, c) + d <= least
     }
 
     // Is every event calm, since even all that can be taken leaves the limits far off?

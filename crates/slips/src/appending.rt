@@ -59,28 +59,28 @@ impl<'a> Writer<'a> {
     }
 
     // A slip appended, whose facts are as many as `facts` says.
-    pub fn append_slip(&mut self, h: Header, q: &Quoting, facts: usize)
-        requires { Writable h q.now
-            × (facts ≡ length (written_by h q.now).premises)
+    pub fn append_slip(&mut self, h: Header, quoting: &Quoting, facts: usize)
+        requires { Writable h quoting.now
+            × (facts ≡ length (written_by h quoting.now).premises)
             × HasRoom (7 + 3 * facts) self.old }
-        ensures words { Wrote (slip_words (written_by h q.now)) self.old self.new }
+        ensures words { Wrote (slip_words (written_by h quoting.now)) self.old self.new }
         ensures same_buffer { self.new.words.ghost_name ≡ self.old.words.ghost_name }
     {
         self.put_head(h, facts);
-        self.put_facts(q);
+        self.put_facts(quoting);
         self.put_length(facts);
     }
 
     // The same where there is room for as many facts as there can be: the facts are written first, and so counted. It stands beside `append_slip`, since to count first is to walk the events twice.
-    pub fn put_slip(&mut self, h: Header, q: &Quoting)
-        requires { Writable h q.now × HasRoom 775 self.old }
-        ensures words { Wrote (slip_words (written_by h q.now)) self.old self.new }
+    pub fn put_slip(&mut self, h: Header, quoting: &Quoting)
+        requires { Writable h quoting.now × HasRoom 775 self.old }
+        ensures words { Wrote (slip_words (written_by h quoting.now)) self.old self.new }
         ensures same_buffer { self.new.words.ghost_name ≡ self.old.words.ghost_name }
     {
         let head = self.at;
         let first = head + HEAD_WORDS;
         self.at = first;
-        self.put_facts(q);
+        self.put_facts(quoting);
         let last = self.at;
         let facts = (last - first) / 3;
         self.at = head;

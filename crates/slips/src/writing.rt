@@ -192,15 +192,15 @@ impl<'a> Writer<'a> {
     }
 
     // The facts of a slip appended: a lag's at once, a reservoir rule's and a set's event by event.
-    pub fn put_facts(&mut self, q: &Quoting)
-        requires { Quotable q.now × HasRoom (3 * length (quoted_by q.now)) self.old }
-        ensures words { Wrote (premise_words (quoted_by q.now)) self.old self.new }
+    pub fn put_facts(&mut self, quoting: &Quoting)
+        requires { Quotable quoting.now × HasRoom (3 * length (quoted_by quoting.now)) self.old }
+        ensures words { Wrote (premise_words (quoted_by quoting.now)) self.old self.new }
         ensures same_buffer { self.new.words.ghost_name ≡ self.old.words.ghost_name }
     {
-        match q.cited {
+        match quoting.cited {
             Citing::Lag(c) => self.put_lag(&c),
-            Citing::Level(c) => self.put_events(q.board, q.events, c),
-            Citing::Total(c) => self.put_events(q.board, q.events, c),
+            Citing::Level(c) => self.put_events(quoting.board, quoting.events, c),
+            Citing::Total(c) => self.put_events(quoting.board, quoting.events, c),
         }
     }
 }

@@ -9,9 +9,9 @@ put_lag-requires c =
     let k = c.in-Lag.c in
     let known = rw e at c.requires.0.known in
     let few = c.requires.0.ranged.few in
-    (rw (← lag_listed k c.args.q.now.events known) (rw e at c.requires.1), omega arith, omega arith)
+    (rw (← lag_listed k c.args.quoting.now.events known) (rw e at c.requires.1), omega arith, omega arith)
 
 pub returns-in-Lag-clause-words : goal.returns-in-Lag-clause-words
 returns-in-Lag-clause-words c =
     let e = c.in-Lag.is in
-    rw (e, lag_listed c.in-Lag.c c.args.q.now.events (rw e at c.requires.0.known)) c.put_lag.ensures.words
+    rw (e, lag_listed c.in-Lag.c c.args.quoting.now.events (rw e at c.requires.0.known)) c.put_lag.ensures.words
