@@ -157,14 +157,6 @@ fn time_plan(name: &str, job: &RawJob, fraction: Option<f64>) -> RawJob {
 
 /// Times the planner on a job; the job as the call leaves it.
 fn time_plan_in(room: usize, name: &str, job: &RawJob, fraction: Option<f64>) -> RawJob {
-    if let Ok(f) = std::env::var("ONLY") {
-        if !name.contains(&f) { return job.clone(); }
-        let mut w = job.windows.clone(); let mut l = vec![JUNK; room];
-        let mut b = Duration::from_secs(100);
-        for _ in 0..300 { w.copy_from_slice(&job.windows); let d = timed(|| calls::proved_plan(job, black_box(&mut w), &mut l)); if d < b { b = d; } }
-        println!("{name} {}", b.as_nanos());
-        return job.clone();
-    }
     let mut windows = [job.windows.clone(), job.windows.clone()];
     let mut lists = [vec![JUNK; room], vec![JUNK; room]];
     let answer = calls::proved_plan(job, &mut windows[0], &mut lists[0]);
@@ -196,7 +188,6 @@ fn time_plan_in(room: usize, name: &str, job: &RawJob, fraction: Option<f64>) ->
 
 /// Times the reader on the list that the planner writes for a job.
 fn time_read(name: &str, job: &RawJob) {
-    if std::env::var("ONLY").is_ok() { return; }
     let mut planned = job.windows.clone();
     let mut list = vec![JUNK; MAX_ROOM];
     let wrote = calls::proved_plan(job, &mut planned, &mut list);

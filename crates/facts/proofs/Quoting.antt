@@ -30,7 +30,8 @@ use Rattle.levels.proofs.Viewing.{here_view, before_here, seen_here, view_here}
 use Rattle.rules.specs.Values.{effect_of, IsLag}
 use Rattle.rules.specs.declared.lags.Lag.{Lag as Pair}
 use Rattle.rules.specs.declared.Effect.{Effect as Done}
-use Rattle.facts.specs.Quotes.{Any, lag_cited, lag_said, height_cited, level_cited, level_said, total_cited, set_cited, LagCites, LevelCites, Cites, Shows, TotalCites}
+use Rattle.std.specs.Bool.{then_some}
+use Rattle.facts.specs.Quotes.{Any, spared_is, lag_cited, lag_said, height_cited, level_cited, level_said, total_cited, set_cited, LagCites, LevelCites, Cites, Shows, TotalCites}
 use Rattle.facts.specs.declared.LagCiting.{LagCiting}
 use Rattle.facts.specs.declared.LevelCiting.{LevelCiting}
 use Rattle.facts.specs.declared.TotalCiting.{TotalCiting}
@@ -102,6 +103,11 @@ before_taken : (m s l : Bool) (W : Windows) (z : ℕ) → produces (side m W z h
 before_taken true s l W z e = or_false s
 before_taken false s l W z e = rw (e, and_false l) (or_false s)
 
+-- The target is spared, or none is.
+spared_at : (s : Bool) (y z : ℕ) → spared_is (then_some s y) z ≡ (s && eqb z y)
+spared_at true y z = refl
+spared_at false y z = refl
+
 -- What is said of an event that is quoted: e's own value, or another's.
 own_said : (own s q : Bool) (a : ℤ) {x y : ℤ} → T (cond own s (not own && q)) → (T q → x ≡ y) → cond own a x ≡ cond own a y
 own_said true s q a t f = refl
@@ -119,7 +125,7 @@ module _
     (spare : spared ≡ spares f x)
   where
     abbrev held : LevelCiting
-    held = record { view = view; from = u; to = v; after = after; until = until; starts = starts; ends = top && ends; spares = spared; target = y }
+    held = record { view = view; from = u; to = v; after = after; until = until; starts = starts; ends = top && ends; spared = then_some spared y }
 
     abbrev cites_here : ℕ → End → Bool
     cites_here = family_cites f (as_view view W) (seen_by view W) y x
@@ -134,7 +140,7 @@ module _
     cites_upper z = rw (others.late, tops, from, to)
 
     cites_high : (z : ℕ) → height_cited held W z ≡ cites_here z h_max
-    cites_high z = rw (spare, from, to)
+    cites_high z = rw (spared_at spared y z, spare, from, to)
 
     abbrev own : ℕ → Bool
     own z = eqb z view.subject

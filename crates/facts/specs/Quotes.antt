@@ -53,11 +53,16 @@ lag_said c z t_max = value_of c.to
 lag_said c z h_min = pos 0
 lag_said c z h_max = pos 0
 
+-- Is z the target that it spares?
+abbrev pub spared_is : Option ℕ → ℕ → Bool
+spared_is None z = false
+spared_is (Some y) z = eqb z y
+
 -- A reservoir rule's.
 module _ (c : LevelCiting) (W : Windows) (z : ℕ) where
   abbrev pub height_cited : Bool
   height_cited =
-      not (c.spares && eqb z c.target)
+      not (spared_is c.spared z)
       && targeted (place (as_view c.view W) (seen_by c.view W) c.from.0 c.to.0 z) (seen_by c.view W z h_max)
 
   abbrev pub level_cited : End → Bool

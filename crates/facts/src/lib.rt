@@ -26,9 +26,8 @@ pub struct LevelCiting {
     // are t ≥ and t ≤ of e quoted?
     pub starts: bool,
     pub ends: bool,
-    // is the target's h left out?
-    pub spares: bool,
-    pub target: usize,
+    // the target whose h is left out, if it is
+    pub spared: Option<usize>,
 }
 
 // What decides the facts of a set's slip, of rule 17 or of its mirror 18: its target, and is it a conflict's? They are read off a board on which only the members have amounts.

@@ -142,8 +142,7 @@ fn level_citing(s: Sight, f: Family, y: usize, x: Effect) -> LevelCiting
         until: last_early(view.stance.strict, from),
         starts: o.early,
         ends: top & o.late,
-        spares: spares(f, x),
-        target: y,
+        spared: spares(f, x).then_some(y),
     }
 }
 
@@ -181,7 +180,7 @@ fn own_quoted(b: &Board, c: LevelCiting, z: usize) -> Quoted
 {
     let p = c.view.place(b, c.from, c.to, z);
     let h = c.view.seen_h_max(b, z);
-    let spared = c.spares & (z == c.target);
+    let spared = c.spared == Some(z);
     Quoted {
         lower: c.starts,
         upper: c.ends,
@@ -198,7 +197,7 @@ fn other_quoted(b: &Board, c: LevelCiting, z: usize) -> Quoted
 {
     let p = c.view.stance.place(b, c.from, c.to, z, false);
     let h = c.view.seen_h_max(b, z);
-    let spared = c.spares & (z == c.target);
+    let spared = c.spared == Some(z);
     if h.produces() {
         let counted = p.sure | p.possible;
         Quoted {

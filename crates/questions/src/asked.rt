@@ -168,7 +168,7 @@ fn horizon_right(h: Time) -> bool
 fn cages_whole(len: usize) -> bool
     ensures { result ≡ (eqb (len % 4) 0 && leb 4 len && leb len 32) }
 {
-    len % 4 == 0 && (4..=32).contains(&len)
+    4 <= len && whole(len, 4, 32)
 }
 
 // To the horizon and the cage table.

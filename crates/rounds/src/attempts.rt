@@ -56,7 +56,7 @@ impl CageJob<'_> {
         store_if(self.board, log.is_written(), header);
     }
 
-    // One attempt; none once the call has ended.
+    // One attempt; none once the call has ended. A set job's has the same frame: what is read, cited and shown differs in each step, so that a trait of the steps would be longer than both.
     pub fn attempt(&mut self, rule: Rule, subject: usize, target: usize, log: &mut Log<'_>)
         requires { Tried self.old (rule_of rule) subject target }
         ensures { Made (λ j. try (number_of (rule_of rule)) subject target ∷ []) self.old log.old self.new log.new }

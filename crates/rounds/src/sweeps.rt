@@ -63,7 +63,8 @@ impl CageJob<'_> {
     // ---- rules 3 to 14 at an event e, in the view of a side, before (strict) or by
 
     fn view_at(&self, mirror: bool, strict: bool, e: usize) -> View
-        ensures { Seen self.now mirror strict e result }
+        requires { e < self.now.job.events }
+        ensures { Seen self.now mirror strict e result × Looks self.now result }
     {
         View::at(self.job.reservoir, self.job.events, mirror, strict, e)
     }

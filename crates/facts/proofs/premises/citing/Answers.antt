@@ -1,12 +1,11 @@
 -- `facts::premises::citing` holds what a slip quotes, by its rule. Assumes nothing.
 use mathlib.Core.Path.{sym, ap}
-use Rattle.model.specs.Rules.{own_end}
 use Prim.Native.Nat.{◌/◌, ◌<◌}
 use lib.ListN.{length}
 use Rattle.rules.specs.Values.{family_of, rule_of}
 use Rattle.rules.specs.Attempts.{on}
 use Rattle.rules.proofs.Giving.{event_subject}
-use Rattle.facts.proofs.Quoting.{span_within, cites_by_upper, cites_by_lower, cites_by_side}
+use Rattle.facts.proofs.Quoting.{cites_by_upper, cites_by_lower, cites_by_side}
 use Rattle.facts.proofs.premises.citing.Goals as goal
 
 pub returns-in-LagUpper : goal.returns-in-LagUpper
@@ -20,9 +19,6 @@ returns-in-LagLower c =
     let a = c.args.a in
     let t : a.subject < length a.lags.now / 3 = rw c.in-LagLower.is at a.tried.subject in
     rw c.in-LagLower.is (cites_by_lower (on a) a.subject a.target c.args.x a.tried.fit t c.lag-in-LagLower.ensures.0 (rw c.has_failed-in-LagLower.ensures at c.lag_citing-in-LagLower.ensures))
-
-pub level_citing-requires : goal.level_citing-requires
-level_citing-requires c = λ w q. span_within (own_end (rule_of c.args.a.rule)) w (c.requires.range w q)
 
 pub returns-in-Reservoir : goal.returns-in-Reservoir
 returns-in-Reservoir c =

@@ -29,6 +29,7 @@ returns c =
     let late = c.late_before in
     let next = c.first_late in
     let last = c.last_early in
-    level_cites a.s.view f (board a.s.board.now.words) a.y x c.e_min-from.result to.result next.result last.result o.result.early top.result o.result.late
+    rw c.then_some.ensures
+    (level_cites a.s.view f (board a.s.board.now.words) a.y x c.e_min-from.result to.result next.result last.result o.result.early top.result o.result.late
     c.spares.result c.e_min-from.ensures (to.ensures ∙ ap (λ t. latest f t x) c.e_max.ensures)
-    (next.ensures ∙ ap (λ b. first_late b to.result.0) late.ensures) last.ensures o.ensures top.ensures c.spares.ensures
+    (next.ensures ∙ ap (λ b. first_late b to.result.0) late.ensures) last.ensures o.ensures top.ensures c.spares.ensures)

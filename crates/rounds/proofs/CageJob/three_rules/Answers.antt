@@ -4,19 +4,16 @@ use Rattle.levels.proofs.Viewing.{subject_is}
 use Rattle.model.specs.Agenda.{target_attempts}
 use Rattle.rounds.specs.Sweeps.{first_of, two_attempts}
 use Rattle.rounds.proofs.Moves.{made_both}
-use Rattle.rounds.proofs.Passing.{looks, looks_next}
+use Rattle.rounds.proofs.Passing.{looks_next}
 use Rattle.rounds.proofs.CageJob.three_rules.Goals as goal
 
-pub two_rules-requires : goal.two_rules-requires
-two_rules-requires c = looks c.args.self.now c.view_at-view.ensures c.requires
-
 pub all_targets-requires : goal.all_targets-requires
-all_targets-requires c = looks_next c.two_rules.ensures (looks c.args.self.now c.view_at-view.ensures c.requires)
+all_targets-requires c = looks_next c.two_rules.ensures c.view_at-view.ensures.1
 
 pub returns : goal.returns
 returns c =
     let a = c.args in
-    let v = c.view_at-view.ensures in
+    let v = c.view_at-view.ensures.0 in
     let r = first_of a.mirror a.strict in
     made_both (λ j. two_attempts r a.e) (λ j. target_attempts j (r + 2) a.e)
     (rw (v.side_is, v.strict_is, subject_is v) at c.two_rules.ensures) (rw (v.side_is, v.strict_is, subject_is v) at c.all_targets.ensures)
