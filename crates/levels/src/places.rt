@@ -1,5 +1,5 @@
 // Before and by, an event's place to e, and the mirror: the leaves that compare and negate words.
-// That an event's amounts are in range stays in contracts, here and above: a board takes any word, so an invariant of it would ask more of its callers.
+// That an event's amounts, or those of the first n, are in range stays in contracts, here and above: a board takes any word, so an invariant of it would ask more of its callers, and a struct of board and event, or of board and n, would be made anew in each step or for each loop.
 ghost use Rattle.std.specs.Prelude.{◌≡◌, cond, ◌<◌, neg_ℤ};
 ghost use Rattle.integers.specs.Range.{Within};
 ghost use Rattle.model.specs.Job.{h_min, h_max, ahead};

@@ -1,4 +1,5 @@
 // A view made, and what is seen in it: e's time window, another event's amount and place.
+// What a cage owes and that a subject is an event stay in contracts: an invariant of `Reservoir` or `View` would ask more of whoever makes one.
 ghost use Rattle.std.specs.Prelude.{◌≡◌, ◌<◌, pos};
 ghost use Rattle.integers.specs.Range.{Within, eq_z};
 ghost use Rattle.model.specs.Job.{h_min, h_max};

@@ -10,7 +10,7 @@ ghost use Rattle.printer.specs.Buffer.{HoldsReply, Printed};
 
 use text::Text;
 
-// Both put their text into a buffer of the caller's, since no library crate uses heap, and answer how many bytes it is, as `read` does.
+// Both put their text into a buffer of the caller's, since no library crate uses heap, and answer how many bytes it is, as `read` does. That it holds a reply stays a clause: an array would ask more of its length.
 
 // The verdict's name with slips and rounds, then each event's number and the four words of its windows.
 // It rules out a program that loses digits (digit_lost) and one that numbers events otherwise (event_by_place).

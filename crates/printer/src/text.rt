@@ -1,4 +1,4 @@
-// A text as it is put into a lent buffer.
+// A text as it is put into a lent buffer. Words are put so by `slips::Writer`: no crate lies under both, and one for a slice and a place is no plainer.
 ghost use Rattle.std.specs.Prelude.{◌≡◌, ◌∷◌, ◌++◌, ◌+◌, ◌*◌, ◌/◌, ◌≤◌, length, take, drop};
 ghost use Rattle.model.specs.Print.{numeral, line_of, headline, event_lines};
 ghost use Rattle.printer.specs.Buffer.{Put, HasRoom};

@@ -102,7 +102,7 @@ fn cover_right(c: Reservoir) -> bool
     (0..=1).contains(&c.cover.0)
 }
 
-// ---- questions to one event
+// ---- questions to one event; its words, as a lag's below, are read where they stand: an array cut out for each would have to be tied to the table's words in each contract
 
 #[tactic(auto, unfolding(model::specs::Job::windows))]
 fn times_right(h: Time, table: &[i32], y: usize) -> bool

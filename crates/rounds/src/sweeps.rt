@@ -15,7 +15,7 @@ use silence::slack::{is_any_moved, is_moved, slack};
 impl CageJob<'_> {
     // ---- what its tests look at
 
-    // Its board in a view.
+    // Its board in a view. That the view is one of the job's stays a clause, here and below: a struct of both would lend the job, which attempts change.
     fn sight(&self, view: View) -> Sight<'_>
         requires { Looks self.now view }
         ensures { (result.view ≡ view) × (result.board.now ≡ self.now.board.now) }

@@ -1,4 +1,6 @@
 // Words appended to a lent buffer.
+// That the buffer stays the one lent is a clause of its own at each method: as a field of `Wrote` it was tried, and a caller's proof then does not find what the buffer holds.
+// `printer` puts bytes so: no crate lies under both, and one for a slice and a place is no plainer.
 ghost use Rattle.std.specs.Prelude.{◌≡◌};
 ghost use Rattle.slips.specs.Writing.{HasRoom, Wrote};
 

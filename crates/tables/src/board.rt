@@ -1,4 +1,5 @@
-// The board: the windows of up to 64 events, each end's words side by side, so that a loop over events goes along a row.
+// The board: the windows of up to 64 events, each end's words side by side, so that a loop over events goes along a row; 64 `Windows` in a row would be no plainer, as ends are read and stored by their row.
+// How many events a job has stands in the job. That an event's number is below 64 stays a clause, here and above: a type for it would only wrap the number, anew in each step of a loop.
 ghost use Rattle.std.specs.Prelude.{◌≡◌, ◌+◌, ◌*◌, ◌/◌, ◌<◌, ◌≤◌, pos, length, replicate, set};
 ghost use Rattle.std.proofs.lemmas.List.Edits.{sets};
 ghost use Rattle.model.specs.Job.{t_min, t_max, h_min, h_max, word, windows};

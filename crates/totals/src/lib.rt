@@ -18,7 +18,7 @@ use rules::{Effect, Finding, Rule};
 use sets::Set;
 use tables::{Board, Height};
 
-// ---- a set of the table
+// ---- a set of the table; board and set stay two parameters: the board changes between two calls, so that a struct which lends both would be made anew at each
 
 // Member i of a set, an event.
 pub fn member(set: Set, i: usize) -> usize
