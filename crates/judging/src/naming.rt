@@ -14,7 +14,6 @@ use rules::lags::Lag;
 use rules::{Family, Rule};
 use sets::{Set, sets as begun};
 use slips::Slip;
-use slips::words::{index, is_event, word_is};
 use tables::Word;
 use totals::is_member;
 
@@ -32,10 +31,10 @@ fn gives_bound(r: Rule) -> bool
 fn kind_right(r: Rule, kind: Word, value: Word) -> bool
     ensures { result ≡ kind_fits (rule_of r) kind.0 value.0 }
 {
-    if word_is(kind, 0) {
-        return word_is(value, 0);
+    if kind.word_is(0) {
+        return value.word_is(0);
     }
-    gives_bound(r) && word_is(kind, r.own_end().kind())
+    gives_bound(r) && kind.word_is(r.own_end().kind())
 }
 
 // How many subjects rule r has: lags in rules 1 and 2, sets in 17 and 18, else events.
@@ -78,17 +77,17 @@ pub fn named<'a>(c: &Call, s: &Slip<'a>) -> Option<Named<'a>>
 {
     let r = s.rule;
     let n = c.job.events;
-    if !is_event(s.subject, subjects(c, r)) {
+    if !s.subject.is_event(subjects(c, r)) {
         return None;
     }
-    if !is_event(s.target, n) {
+    if !s.target.is_event(n) {
         return None;
     }
     if !facts_fit(s.facts, n) {
         return None;
     }
-    let subject = index(s.subject);
-    let target = index(s.target);
+    let subject = s.subject.index();
+    let target = s.target.index();
     if !target_right(c, r, subject, target) {
         return None;
     }
@@ -99,6 +98,6 @@ pub fn named<'a>(c: &Call, s: &Slip<'a>) -> Option<Named<'a>>
         slip: *s,
         subject,
         target,
-        bound: (!word_is(s.kind, 0)).then_some(s.value),
+        bound: (!s.kind.word_is(0)).then_some(s.value),
     })
 }
