@@ -2,11 +2,10 @@
 ghost use Rattle.std.specs.Prelude.{◌≡◌, ◌<◌, ◌≤◌, eqb, nat_abs};
 ghost use Rattle.model.specs.Job.{any, set_begin, member_count, member_word};
 ghost use Rattle.model.specs.Rules.{subjects, target_fits};
-ghost use Rattle.model.specs.Questions.{is_event};
 ghost use Rattle.model.specs.Reader.{has_bound, kind_fits};
 ghost use Rattle.rules.specs.Values.{rule_of};
 ghost use Rattle.totals.specs.Totals.{Listed};
-ghost use Rattle.judging.specs.Ready.{job_of, Sits, Names14};
+ghost use Rattle.judging.specs.Ready.{job_of, Nameable, Names14};
 
 use crate::premises::facts_fit;
 use crate::{Call, Named};
@@ -39,7 +38,7 @@ fn kind_right(r: Rule, kind: Word, value: Word) -> bool
 
 // How many subjects rule r has: lags in rules 1 and 2, sets in 17 and 18, else events.
 fn subjects(c: &Call, r: Rule) -> usize
-    requires { Sits c.now }
+    requires { Nameable c.now }
     ensures { (result ≡ subjects (rule_of r) (job_of c.now)) × (result ≤ 256) }
 {
     match r {
@@ -59,7 +58,7 @@ fn in_set(sets: &[i32], g: usize, y: usize) -> bool
 
 // Does the target fit the rule: a, b, or e; any event in 5, 8, 11, 14; a member in 17 and 18?
 fn target_right(c: &Call, r: Rule, e: usize, y: usize) -> bool
-    requires { Sits c.now × (e < subjects (rule_of r) (job_of c.now)) }
+    requires { Nameable c.now × (e < subjects (rule_of r) (job_of c.now)) }
     ensures { result ≡ target_fits (rule_of r) (job_of c.now) e y }
 {
     match r {
@@ -72,7 +71,7 @@ fn target_right(c: &Call, r: Rule, e: usize, y: usize) -> bool
 
 // 14. The slip with its subject, target and bound, if subject, target and fact events exist, fact kinds are 1..4, the target fits the rule, and the kind is the rule's own, or 0 with value 0.
 pub fn named<'a>(c: &Call, s: &Slip<'a>) -> Option<Named<'a>>
-    requires { Sits c.now }
+    requires { Nameable c.now }
     ensures { Names14 (job_of c.now) s.now result }
 {
     let r = s.rule;
