@@ -18,7 +18,6 @@ use questions::asked::{ask, questions};
 use questions::{Question, Refusal};
 use slips::MARK;
 use slips::reading::trailer_of;
-use slips::words::{index, not_negative, word_is};
 use std::fmt;
 use tables::{Board, Job, Time};
 
@@ -54,7 +53,7 @@ fn is_marked(list: &[i32]) -> bool
     ensures { result ≡ marked list.now }
 {
     let trailer = trailer_of(list);
-    word_is(trailer.mark, MARK) && not_negative(trailer.slips)
+    trailer.mark.word_is(MARK) && trailer.slips.not_negative()
 }
 
 // 19. Do the slips end at the trailer, its second word where the last begins?
@@ -63,7 +62,7 @@ fn ends_right(list: &[i32], tail: Tail) -> bool
     ensures { result ≡ ends_right list.now tail.after tail.last }
 {
     let trailer = trailer_of(list);
-    tail.after == list.len() - 3 && word_is(trailer.last, tail.last)
+    tail.after == list.len() - 3 && trailer.last.word_is(tail.last)
 }
 
 // The judgement on a list whose slips were all read: open or conflict, if it ends right.
@@ -89,7 +88,7 @@ fn judge_slips(b: &mut Board, c: &Call, list: &[i32]) -> Result<Judgement, Refus
         (left_by result (table_of c.now.job.events c.now.table.now b.new.words) c.now.table.now)
         result }
 {
-    let count = index(trailer_of(list).slips);
+    let count = trailer_of(list).slips.index();
     let tail = read_slips(b, c, &list[..list.len() - 3], count)?;
     closing(list, tail)
 }

@@ -18,7 +18,7 @@ use Rattle.rules.specs.Values.{rule_of}
 use Rattle.rules.proofs.Numbering.{rule_number}
 use Rattle.slips.specs.Slip.{explanation_of}
 use Rattle.slips.specs.declared.Slip.{Slip}
-use Rattle.judging.specs.Ready.{call_of, job_of, Seated, Sits}
+use Rattle.judging.specs.Ready.{call_of, job_of, Seated}
 use Rattle.judging.specs.declared.Call.{Call}
 
 pub events_are : (k : Job) (cs table ws gs : List ℤ) → Seated k cs table ws gs → events (call_of k cs table ws gs) ≡ k.events
@@ -34,11 +34,11 @@ event_is n (pos w) t =
 event_is n (negsuc w) t = absurd t
 
 -- The five tests, of the code's job.
-pub names_is : (c : Call) → Sits c → (s : Slip) →
+pub names_is : (c : Call) → events (job_of c) ≡ c.job.events → (s : Slip) →
     names (job_of c) (explanation_of s)
     ≡ (is_event (subjects (rule_of s.rule) (job_of c)) s.subject.0 && is_event c.job.events s.target.0 && premises_fit c.job.events (explanation_of s).premises && target_fits (rule_of s.rule) (job_of c) (nat_abs s.subject.0) (nat_abs s.target.0) && kind_fits (rule_of s.rule) s.kind.0 s.value.0)
 unfolding names
-names_is c seated s = rw (rule_number (rule_of s.rule), events_are c.job c.cages.now c.table.now c.lags.now c.sets.now seated)
+names_is c counted s = rw (rule_number (rule_of s.rule), counted)
 
 -- A question that passes is answered with yes.
 pub said_yes : (q : ℕ) (t : Bool) → pass ≡ ask q t → T t

@@ -24,7 +24,7 @@ use Rattle.rules.specs.Values.{family_of, rule_of as coded, Tries}
 use Rattle.rules.proofs.Numbering.{rule_number}
 use Rattle.slips.specs.Slip.{headed}
 use Rattle.slips.specs.declared.Slip.{Slip}
-use Rattle.judging.specs.Ready.{job_of, Sits, AtHome}
+use Rattle.judging.specs.Ready.{job_of, Sits, Nameable, AtHome}
 use Rattle.judging.specs.declared.Call.{Call}
 use Rattle.judging.specs.declared.Named.{Named}
 use Rattle.judging.proofs.Asking.{events_are}
@@ -81,6 +81,15 @@ module _ (c : Call) (seated : Sits c) where
   pub fit : Fit k c.lags.now
   fit =
       fit_cage 0 seated.sane.some_cage (record { horizon_is = refl; reservoir_is = sym seated.first; events_are = refl })
+
+  -- What 14 stands on.
+  pub nameable : Nameable c
+  nameable =
+      record {
+        fit = fit;
+        grouped = record { few = seated.sane.few_sets; sane = rw (← counted) seated.sane.set_sane };
+        events_are = counted;
+      }
 
   -- ---- as a lag meets it
 

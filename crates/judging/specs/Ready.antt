@@ -3,14 +3,14 @@ use Rattle.std.specs.Prelude.{◌≡◌, Bool, true, false, ◌&&◌, List, ℕ,
 use Rattle.std.specs.Int.Signed.{le_z}
 use Rattle.integers.specs.Range.{Within}
 use Rattle.model.specs.Job as model
-use Rattle.model.specs.Job.{End, h_min, h_max, meets, Windows, windows, Inside, cage_at, set_begin, in_set, events}
+use Rattle.model.specs.Job.{End, h_min, h_max, meets, Windows, windows, Inside, cage_at, begun, set_begin, in_set, events}
 use Rattle.model.specs.Standing.{Sane, SaneSet, Ranged}
 use Rattle.model.specs.Rules.{total, target_fits}
 use Rattle.model.specs.Slips.{Premise, premise_event, premise_end}
 use Rattle.model.specs.Questions.{is_event, in_range}
 use Rattle.model.specs.Reader.{names}
 use Rattle.tables.specs.Board.{board}
-use Rattle.tables.specs.Job.{reservoir_of, call, Kinds}
+use Rattle.tables.specs.Job.{reservoir_of, call, Kinds, Fit}
 use Rattle.tables.specs.declared.Job.{Job}
 use Rattle.rules.specs.Values.{variant_of, rule_of}
 use Rattle.rules.specs.declared.Variant.{Variant}
@@ -45,6 +45,17 @@ job_of c = call_of c.job c.cages.now c.table.now c.lags.now c.sets.now
 
 abbrev pub Sits : Call → Type 0
 Sits c = Seated c.job c.cages.now c.table.now c.lags.now c.sets.now
+
+-- The sets of a table, which the questions let pass in a job of n events.
+pub record Grouped (n : ℕ) (gs : List ℤ) : Type 0 where
+  pub few : begun gs 17 ≤ 16
+  pub sane : (g : ℕ) → g < begun gs 17 → SaneSet n gs g
+
+-- What 14 stands on: lags and sets in range, and as many events in the window table as the code's job has.
+pub record Nameable (c : Call) : Type 0 where
+  pub fit : Fit c.job c.lags.now
+  pub grouped : Grouped c.job.events c.sets.now
+  pub events_are : events (job_of c) ≡ c.job.events
 
 abbrev pub ReadyFor : Call → List ℤ → Type 0
 ReadyFor c b = Ready c.job c.cages.now c.table.now c.lags.now c.sets.now c.wide.now.words b

@@ -2,11 +2,10 @@
 ghost use Rattle.std.specs.Prelude.{◌≡◌, ◌<◌, ◌≤◌, eqb, nat_abs};
 ghost use Rattle.model.specs.Job.{any, set_begin, member_count, member_word};
 ghost use Rattle.model.specs.Rules.{subjects, target_fits};
-ghost use Rattle.model.specs.Questions.{is_event};
 ghost use Rattle.model.specs.Reader.{has_bound, kind_fits};
 ghost use Rattle.rules.specs.Values.{rule_of};
 ghost use Rattle.totals.specs.Totals.{Listed};
-ghost use Rattle.judging.specs.Ready.{job_of, Sits, Names14};
+ghost use Rattle.judging.specs.Ready.{job_of, Nameable, Names14};
 
 use crate::premises::facts_fit;
 use crate::{Call, Named};
@@ -14,7 +13,6 @@ use rules::lags::Lag;
 use rules::{Family, Rule};
 use sets::{Set, sets as begun};
 use slips::Slip;
-use slips::words::{index, is_event, word_is};
 use tables::Word;
 use totals::is_member;
 
@@ -32,15 +30,15 @@ fn gives_bound(r: Rule) -> bool
 fn kind_right(r: Rule, kind: Word, value: Word) -> bool
     ensures { result ≡ kind_fits (rule_of r) kind.0 value.0 }
 {
-    if word_is(kind, 0) {
-        return word_is(value, 0);
+    if kind.word_is(0) {
+        return value.word_is(0);
     }
-    gives_bound(r) && word_is(kind, r.own_end().kind())
+    gives_bound(r) && kind.word_is(r.own_end().kind())
 }
 
 // How many subjects rule r has: lags in rules 1 and 2, sets in 17 and 18, else events.
 fn subjects(c: &Call, r: Rule) -> usize
-    requires { Sits c.now }
+    requires { Nameable c.now }
     ensures { (result ≡ subjects (rule_of r) (job_of c.now)) × (result ≤ 256) }
 {
     match r {
@@ -60,7 +58,7 @@ fn in_set(sets: &[i32], g: usize, y: usize) -> bool
 
 // Does the target fit the rule: a, b, or e; any event in 5, 8, 11, 14; a member in 17 and 18?
 fn target_right(c: &Call, r: Rule, e: usize, y: usize) -> bool
-    requires { Sits c.now × (e < subjects (rule_of r) (job_of c.now)) }
+    requires { Nameable c.now × (e < subjects (rule_of r) (job_of c.now)) }
     ensures { result ≡ target_fits (rule_of r) (job_of c.now) e y }
 {
     match r {
@@ -73,22 +71,22 @@ fn target_right(c: &Call, r: Rule, e: usize, y: usize) -> bool
 
 // 14. The slip with its subject, target and bound, if subject, target and fact events exist, fact kinds are 1..4, the target fits the rule, and the kind is the rule's own, or 0 with value 0.
 pub fn named<'a>(c: &Call, s: &Slip<'a>) -> Option<Named<'a>>
-    requires { Sits c.now }
+    requires { Nameable c.now }
     ensures { Names14 (job_of c.now) s.now result }
 {
     let r = s.rule;
     let n = c.job.events;
-    if !is_event(s.subject, subjects(c, r)) {
+    if !s.subject.is_event(subjects(c, r)) {
         return None;
     }
-    if !is_event(s.target, n) {
+    if !s.target.is_event(n) {
         return None;
     }
     if !facts_fit(s.facts, n) {
         return None;
     }
-    let subject = index(s.subject);
-    let target = index(s.target);
+    let subject = s.subject.index();
+    let target = s.target.index();
     if !target_right(c, r, subject, target) {
         return None;
     }
@@ -99,6 +97,6 @@ pub fn named<'a>(c: &Call, s: &Slip<'a>) -> Option<Named<'a>>
         slip: *s,
         subject,
         target,
-        bound: (!word_is(s.kind, 0)).then_some(s.value),
+        bound: (!s.kind.word_is(0)).then_some(s.value),
     })
 }

@@ -6,7 +6,6 @@ ghost use Rattle.tables.specs.Board.{board};
 ghost use Rattle.slips.specs.Slip.{premise_of, premises_in};
 ghost use Rattle.judging.specs.Ready.{fits_one, true_of, Names, Same};
 
-use slips::words::{index, is_event};
 use slips::{Fact, Facts};
 use tables::{Board, End};
 
@@ -15,7 +14,7 @@ fn fact_fits(f: Fact, n: usize) -> bool
     requires { n ≤ 64 }
     ensures { result ≡ fits_one n (premise_of f) }
 {
-    is_event(f.event, n) & End::try_from(f.kind).is_ok()
+    f.event.is_event(n) & End::try_from(f.kind).is_ok()
 }
 
 // 14. Does every fact name an event of n and a kind 1..4?
@@ -31,7 +30,7 @@ fn fact_true(b: &Board, f: Fact) -> bool
     requires { Names 64 (premise_of f) }
     ensures { result ≡ true_of (board b.now.words) (premise_of f) }
 {
-    let y = index(f.event);
+    let y = f.event.index();
     End::try_from(f.kind).is_ok_and(|end| end.meets(f.value, b.end(end, y)))
 }
 
@@ -48,7 +47,7 @@ fn tighten(b: &mut Board, f: Fact)
     requires { Names 64 (premise_of f) }
     ensures { Same (board b.new.words) (narrow (board b.old.words) (premise_event (premise_of f)) (premise_end (premise_of f)) f.value.0) }
 {
-    let y = index(f.event);
+    let y = f.event.index();
     if let Ok(end) = End::try_from(f.kind) {
         if !end.meets(f.value, b.end(end, y)) {
             b.set_end(end, y, f.value);

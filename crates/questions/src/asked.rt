@@ -1,6 +1,6 @@
 // The questions that planner and reader put to a call, in order; words are only compared, so that any word is harmless.
 ghost use Rattle.std.specs.Prelude.{◌≡◌, ℕ, Bool, ◌&&◌, ◌||◌, [], ◌+◌, ◌*◌, ◌%◌, ◌<◌, ◌≤◌, eqb, leb, pos, negsuc, length};
-ghost use Rattle.std.specs.Int.Signed.{le_z, lt_z};
+ghost use Rattle.std.specs.Int.Signed.{le_z};
 ghost use Rattle.model.specs.Job.{windows};
 ghost use Rattle.model.specs.Questions.{ask, each, refuse, horizon_right, limit_in_range, limits_right, stock_right, cover_right, times_right, heights_right, cage_right, lag_events, lag_differs, lag_in_range, limit_right, room_right, cage_questions, window_questions, lag_questions, first_questions, own_questions, questions, plan_questions};
 ghost use Rattle.tables.specs.Job.{reservoir_of, call};
@@ -11,7 +11,7 @@ use crate::asked_sets::set_questions;
 use crate::{LEAST_ROOM, MOST_ROOM, MOST_ROUNDS, Question, Refusal};
 use tables::{
     Height, LEAST_AMOUNT, LEAST_LEVEL, LEAST_MINUTES, MOST_AMOUNT, MOST_LAG_WORDS, MOST_LEVEL,
-    MOST_MINUTES, MOST_WINDOW_WORDS, Reservoir, Time, cage_at,
+    MOST_MINUTES, MOST_WINDOW_WORDS, Reservoir, Time, Word, cage_at,
 };
 
 // ---- a question put
@@ -44,20 +44,6 @@ pub fn each<F: Fn(usize) -> bool>(question: Question, n: usize, right: F) -> Res
 }
 
 // ---- tests of words
-
-// x is one of a..b, both ends among them. It has a name, since `slips` asks the same of a list's words.
-pub fn between(x: i32, a: i32, b: i32) -> bool
-    ensures { result ≡ (le_z a x && le_z x b) }
-{
-    (a..=b).contains(&x)
-}
-
-// A word is the number of an event, of n.
-pub fn is_event(w: i32, n: i32) -> bool
-    ensures { result ≡ (le_z (pos 0) w && lt_z w n) }
-{
-    (0..n).contains(&w)
-}
 
 // A range of amounts keeps one sign and is not too large.
 fn one_sign(low: i32, high: i32) -> bool
@@ -129,7 +115,7 @@ fn cage_right(cages: usize, table: &[i32], y: usize) -> bool
     requires { (cages ≤ 8) × (5 * y + 5 ≤ length table.now) }
     ensures { result ≡ cage_right cages table.now y }
 {
-    is_event(table[5 * y + 4], cages as i32)
+    Word(table[5 * y + 4]).is_event(cages)
 }
 
 // ---- questions to one lag
@@ -138,8 +124,7 @@ fn lag_events(n: usize, lags: &[i32], g: usize) -> bool
     requires { (n ≤ 64) × (3 * g + 3 ≤ length lags.now) }
     ensures { result ≡ lag_events n lags.now g }
 {
-    let events = n as i32;
-    is_event(lags[3 * g], events) && is_event(lags[3 * g + 1], events)
+    Word(lags[3 * g]).is_event(n) && Word(lags[3 * g + 1]).is_event(n)
 }
 
 fn lag_differs(lags: &[i32], g: usize) -> bool

@@ -4,9 +4,10 @@ ghost use Rattle.model.specs.Job.{every};
 ghost use Rattle.model.specs.Questions.{set_whole, members_right, totals_right, total_in_range, set_questions};
 ghost use Rattle.questions.specs.Asked.{check_of, is_new, member_right};
 
-use crate::asked::{each, is_event};
+use crate::asked::each;
 use crate::{Question, Refusal};
 use sets::{LEAST_TOTAL, MOST_TOTAL, Set, sets};
+use tables::Word;
 
 // Is set g one of the first 16, and whole?
 fn set_whole(ws: &[i32], g: usize) -> bool
@@ -28,7 +29,7 @@ fn all_right(n: usize, members: &[i32]) -> bool
     requires { n ≤ 64 }
     ensures { result ≡ every (length members.now) (member_right n members.now) }
 {
-    (0..members.len()).all(|i| is_event(members[i], n as i32) && is_new(members, i))
+    (0..members.len()).all(|i| Word(members[i]).is_event(n) && is_new(members, i))
 }
 
 // Has set g, which is whole, members, all of them so?

@@ -1,7 +1,6 @@
 // A slip's words and a list's, written into the slip buffer and read from any list, side by side.
 #![tactic(auto)]
 
-pub mod words; // words.rt: one word, read and compared
 pub mod writer; // writer.rt: words appended to a lent buffer
 pub mod writing; // writing.rt: the facts of a slip counted and written
 pub mod appending; // appending.rt: a slip and the trailer appended to a list

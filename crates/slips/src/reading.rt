@@ -3,7 +3,6 @@ ghost use Rattle.std.specs.Prelude.{◌≡◌, ◌+◌, ◌≤◌, length};
 ghost use Rattle.model.specs.Reader.{reading};
 ghost use Rattle.slips.specs.Slip.{Ruled, Counted, premise_of, premise_at, reading_of, Placed, Trails};
 
-use crate::words::{between, index, word_at, word_is};
 use crate::{Fact, Facts, HEAD_WORDS, MOST_FACTS, Slip, Trailer, slip_length};
 use rules::Rule;
 use tables::Word;
@@ -19,7 +18,7 @@ fn known_rule(w: Word) -> Option<Rule>
 fn known_count(w: Word) -> Option<usize>
     ensures { Counted w.0 result }
 {
-    between(w, 0, MOST_FACTS).then(|| index(w))
+    (0..=MOST_FACTS).contains(&w.0).then(|| w.index())
 }
 
 // 13. The slip at p and the place after it, if it is whole in the words before the trailer, its rule known, 0 to 256 facts, length right.
@@ -31,22 +30,22 @@ pub fn read_slip(words: &[i32], p: usize) -> Option<(Slip<'_>, usize)>
     if left <= HEAD_WORDS {
         return None;
     }
-    let rule = known_rule(word_at(words, p))?;
-    let count = known_count(word_at(words, p + 5))?;
+    let rule = known_rule(Word::word_at(words, p))?;
+    let count = known_count(Word::word_at(words, p + 5))?;
     let size = slip_length(count);
     if left < size {
         return None;
     }
     let last = p + size - 1;
-    if !word_is(word_at(words, last), size) {
+    if !Word::word_at(words, last).word_is(size) {
         return None;
     }
     let slip = Slip {
         rule,
-        subject: word_at(words, p + 1),
-        target: word_at(words, p + 2),
-        kind: word_at(words, p + 3),
-        value: word_at(words, p + 4),
+        subject: Word::word_at(words, p + 1),
+        target: Word::word_at(words, p + 2),
+        kind: Word::word_at(words, p + 3),
+        value: Word::word_at(words, p + 4),
         facts: Facts {
             words: &words[p + HEAD_WORDS..last],
         },
@@ -60,9 +59,9 @@ pub fn fact_at(list: &[i32], p: usize) -> Fact
     ensures { premise_of result ≡ premise_at list.now p }
 {
     Fact {
-        event: word_at(list, p),
-        kind: word_at(list, p + 1),
-        value: word_at(list, p + 2),
+        event: Word::word_at(list, p),
+        kind: Word::word_at(list, p + 1),
+        value: Word::word_at(list, p + 2),
     }
 }
 
@@ -94,8 +93,8 @@ pub fn trailer_of(list: &[i32]) -> Trailer
 {
     let stop = list.len() - 3;
     Trailer {
-        slips: word_at(list, stop),
-        last: word_at(list, stop + 1),
-        mark: word_at(list, stop + 2),
+        slips: Word::word_at(list, stop),
+        last: Word::word_at(list, stop + 1),
+        mark: Word::word_at(list, stop + 2),
     }
 }

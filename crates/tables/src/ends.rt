@@ -1,7 +1,10 @@
 // The four ends of an event's windows, and what is stored and compared there.
-ghost use Rattle.std.specs.Prelude.{◌≡◌};
+ghost use Rattle.std.specs.Prelude.{◌≡◌, ◌<◌, T, pos, nat_abs, length};
+ghost use Rattle.std.specs.Int.Signed.{le_z};
+ghost use Rattle.integers.specs.Range.{eq_z};
 ghost use Rattle.model.specs.Job.{word, meets, opposite};
-ghost use Rattle.model.specs.Slips.{number};
+ghost use Rattle.model.specs.Questions.{is_event};
+ghost use Rattle.model.specs.Slips.{at, number};
 ghost use Rattle.tables.specs.Ends.{end_of, Named};
 
 use crate::{Height, Time};
@@ -9,6 +12,46 @@ use crate::{Height, Time};
 // A word of a table or of a list: a time or a height by its end. It is compared and stored, never added.
 #[derive(Clone, Copy, PartialEq, Eq, PartialOrd, Ord)]
 pub struct Word(pub i32);
+
+impl Word {
+    // Word i of a list.
+    pub fn word_at(list: &[i32], i: usize) -> Word
+        requires { i < length list.now }
+        ensures { result.0 ≡ at list.now i }
+    {
+        Word(list[i])
+    }
+
+    // The number that the word is, which is not negative.
+    pub fn index(self) -> usize
+        requires { T (le_z (pos 0) self.0) }
+        ensures { result ≡ nat_abs self.0 }
+    {
+        self.0 as usize
+    }
+
+    // Is it the number n?
+    pub fn word_is(self, n: usize) -> bool
+        requires { n < 2147483648 }
+        ensures { result ≡ eq_z self.0 (pos n) }
+    {
+        self.0 == n as i32
+    }
+
+    // Is it the number of an event, of n?
+    pub fn is_event(self, n: usize) -> bool
+        requires { n < 2147483648 }
+        ensures { result ≡ is_event n self.0 }
+    {
+        (0..n as i32).contains(&self.0)
+    }
+
+    pub fn not_negative(self) -> bool
+        ensures { result ≡ le_z (pos 0) self.0 }
+    {
+        0 <= self.0
+    }
+}
 
 impl From<Time> for Word {
     ghost from_gives = { λ t w. w.0 ≡ t.0 };

@@ -11,7 +11,11 @@ use Rattle.judging.specs.Ready.{job_of}
 use Rattle.judging.proofs.Asking.{said_yes}
 use Rattle.questions.specs.declared.Question.TheVariants.{Names}
 use Rattle.judging.proofs.Passing.{narrowed_range, narrowed_kinds, facts_fit}
+use Rattle.judging.proofs.Seating.{nameable}
 use Rattle.judging.proofs.giving.slip_questions.Goals as goal
+
+pub named-requires : goal.named-requires
+named-requires c = nameable c.args.c.now c.requires.seated
 
 pub returns-in_err-s-clause-asked : goal.returns-in_err-s-clause-asked
 unfolding slip_questions

@@ -9,5 +9,5 @@ in_set-requires c =
     let a = c.args in
     let p = c.requires in
     let l = rw c.in-Total.is at p.1 in
-    let few = p.0.sane.few_sets in
-    (omega arith, reads refl (p.0.sane.set_sane a.e l))
+    let few = p.0.grouped.few in
+    (omega arith, reads refl (p.0.grouped.sane a.e l))
