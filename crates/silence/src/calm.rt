@@ -72,7 +72,13 @@ impl OneCage<'_> {
     {
         let b = self.board;
         let c = self.job.reservoir;
-        let all = floor_gains(b, self.job.events, side_opening(mirror, c), mirror, b.t_min(e));
+        let all = floor_gains(
+            b,
+            self.job.events,
+            side_opening(mirror, c),
+            mirror,
+            b.t_min(e),
+        );
         let floor = all + drain(b, mirror, e);
         cage_limit(mirror, c) + d <= floor
     }
