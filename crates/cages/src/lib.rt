@@ -20,7 +20,7 @@ fn seen(own: bool, w: Windows) -> Windows
     }
 }
 
-// An event whose cage is looked at: the window table, how many events it has, and which of them this one is.
+// An event whose cage is looked at: the window table, how many events it has, which loops and contracts name, and which of them this one is.
 #[derive(Clone, Copy)]
 pub struct Home<'a> {
     pub table: &'a [i32],

@@ -36,6 +36,7 @@ fn kind_right(r: Rule, kind: Word, value: Word) -> bool
     gives_bound(r) && kind.word_is(r.own_end().kind())
 }
 
+// What a call owes these stays a clause: it is no more than was asked of the call's parts, and an invariant of `Call` would ask all of it of whoever makes one.
 // How many subjects rule r has: lags in rules 1 and 2, sets in 17 and 18, else events.
 fn subjects(c: &Call, r: Rule) -> usize
     requires { Nameable c.now }

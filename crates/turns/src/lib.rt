@@ -9,7 +9,7 @@ ghost use Rattle.turns.specs.Works.{Works};
 
 use tables::{Board, Time};
 
-// A call at hand: the board of its windows, its words, all lent, its number of events.
+// A call at hand: the board of its windows, its words, all lent, its number of events, which loops and contracts name.
 #[derive(Drop)]
 pub struct Call<'a> {
     pub board: &'a mut Board,
