@@ -3,7 +3,7 @@
 use mathlib.Core.Path.{◌≡◌, refl, sym, ap, ap₂, ◌∙◌}
 use mathlib.Core.Bool.{Bool, true, false}
 use mathlib.Core.List.{List, [], ◌∷◌}
-use Prim.Native.Nat.{ℕ, ◌+◌, ◌*◌, ◌<◌}
+use Prim.Native.Nat.{ℕ, ◌+◌, ◌*◌, ◌≤◌, ◌<◌}
 use native.Mathlib.Omega.{arith}
 use lib.Dec.{eqb}
 use lib.IntN.{ℤ, neg_ℤ, ◌+ℤ◌, ◌-ℤ◌}
@@ -70,9 +70,9 @@ module _ (j : Job) (W : Windows) (e : ℕ) (q : Quiet j W e) where
       (each_append (Still j W) (three_attempts j 9 e) _ (three_still 9 false false refl refl refl)
       (three_still 12 true false refl refl refl)))
 
--- No rule does anything at any event.
-pub events_still : (j : Job) (W : Windows) → ((e : ℕ) → e < events j → Quiet j W e) → Each (Still j W) (each_of (event_attempts j) 0 (events j))
-events_still j W q = each_of_all (Still j W) (event_attempts j) (events j) 0 (events j) (λ e l. event_still j W e (q e l)) (omega arith)
+-- No rule does anything at k events in turn.
+pub events_still : (j : Job) (W : Windows) (i k : ℕ) → i + k ≤ events j → ((e : ℕ) → e < events j → Quiet j W e) → Each (Still j W) (each_of (event_attempts j) i k)
+events_still j W i k l q = each_of_all (Still j W) (event_attempts j) (events j) i k (λ e l. event_still j W e (q e l)) l
 
 -- What a family does to the windows seen tells what the rule does.
 pub seen_idle : (m b : Bool) (f : Family) (j : Job) (W : Windows) (e y : ℕ)

@@ -3,8 +3,8 @@
 use mathlib.Core.Path.{◌≡◌, refl, sym, ap, ◌∙◌}
 use mathlib.Core.Bool.{Bool, true, false, cond}
 use mathlib.Core.List.{List, [], ◌∷◌, ◌++◌, append-nil, append_assoc}
-use Prim.Native.Nat.{ℕ, zero, suc, ◌+◌, ◌≤◌, ◌<◌}
-use native.Mathlib.Numerals.{add-one}
+use Prim.Native.Nat.{ℕ, zero, suc, ◌+◌, ◌-◌, ◌≤◌, ◌<◌}
+use native.Mathlib.Nat.{zero-add, add-zero, suc-add}
 use native.Mathlib.Omega.{arith}
 use lib.Dec.{T, eqb_refl, eqb}
 use lib.IntN.{ℤ, pos}
@@ -23,10 +23,14 @@ pub each_append : {A : Type 0} (P : A → Type 0) (xs ys : List A) → Each P xs
 each_append P [] ys p q = q
 each_append P (x ∷ xs) ys p q = (p.0, each_append P xs ys p.1 q)
 
-pub each_of_all : {A : Type 0} (P : A → Type 0) (f : ℕ → List A) (n i k : ℕ) → ((y : ℕ) → y < n → Each P (f y)) → i + k ≤ n → Each P (each_of f i k)
+pub each_of_range : {A : Type 0} (P : A → Type 0) (f : ℕ → List A) (i k : ℕ) → ((y : ℕ) → i ≤ y → y < i + k → Each P (f y)) → Each P (each_of f i k)
 unfolding each_of
-each_of_all P f n i zero h l = tt
-each_of_all P f n i (suc k) h l = each_append P (f i) (each_of f (i + 1) k) (h i (omega arith)) (each_of_all P f n (i + 1) k h (omega arith))
+each_of_range P f i zero h = tt
+each_of_range P f i (suc k) h =
+    each_append P (f i) (each_of f (i + 1) k) (h i (omega arith) (omega arith)) (each_of_range P f (i + 1) k (λ y p q. h y (omega arith) (omega arith)))
+
+pub each_of_all : {A : Type 0} (P : A → Type 0) (f : ℕ → List A) (n i k : ℕ) → ((y : ℕ) → y < n → Each P (f y)) → i + k ≤ n → Each P (each_of f i k)
+each_of_all P f n i k h l = each_of_range P f i k (λ y p q. h y (omega arith))
 
 module _ (j : Job) (sane : Sane j) where
   lag_valid : (g : ℕ) → g < lags j → Each (Allowed j) (lag_attempts j g)
@@ -76,19 +80,34 @@ unfolding made
 made_append room j [] ys s = refl
 made_append room j (x ∷ xs) ys s = made_append room j xs ys (attempt room x.rule j x.subject x.target s)
 
--- A list for i, i + 1, .., of one more at its end.
-each_of_more : {A : Type 0} (f : ℕ → List A) (i k : ℕ) → each_of f i (suc k) ≡ each_of f i k ++ f (i + k)
+-- What f has for k + l in turn is what it has for the first k and then for the l behind them.
+pub each_of_append : {A : Type 0} (f : ℕ → List A) (i k l : ℕ) → each_of f i (k + l) ≡ each_of f i k ++ each_of f (i + k) l
 unfolding each_of
-each_of_more f i zero = append-nil (f i) ∙ ap f (omega arith)
-each_of_more f i (suc k) =
+each_of_append f i zero l = rw (zero-add l, add-zero i)
+each_of_append f i (suc k) l =
     let e : (i + 1) + k ≡ i + suc k = omega arith in
-    ap (λ xs. f i ++ xs) (each_of_more f (i + 1) k ∙ ap (λ z. each_of f (i + 1) k ++ f z) e) ∙ sym (append_assoc (f i) (each_of f (i + 1) k) (f (i + suc k)))
+    rw (suc-add k l)
+    (ap (λ xs. f i ++ xs) (each_of_append f (i + 1) k l ∙ ap (λ z. each_of f (i + 1) k ++ each_of f z l) e) ∙ sym (append_assoc (f i) (each_of f (i + 1) k) (each_of f (i + suc k) l)))
 
--- A loop from 0 on: what was made so far, then what f has for i.
-pub made_more : (room : ℕ) (j : Job) (f : ℕ → List Attempt) (i : ℕ) (s : State) → made room j (each_of f 0 (i + 1)) s ≡ made room j (f i) (made room j (each_of f 0 i) s)
-made_more room j f i s =
-    let e : 0 + i ≡ i = omega arith in
-    rw (add-one i, each_of_more f 0 i, e) (made_append room j (each_of f 0 i) (f i) s)
+module _ (room : ℕ) (j : Job) (f : ℕ → List Attempt) where
+  one_more : (i k : ℕ) (s : State) → made room j (each_of f i (k + 1)) s ≡ made room j (f (i + k)) (made room j (each_of f i k) s)
+  unfolding each_of
+  one_more i k s =
+      ap (λ xs. made room j xs s) (each_of_append f i k 1 ∙ ap (λ xs. each_of f i k ++ xs) (append-nil (f (i + k))))
+      ∙ made_append room j (each_of f i k) (f (i + k)) s
+
+  -- A loop from 0 on: what was made so far, then what f has for i.
+  pub made_more : (i : ℕ) (s : State) → made room j (each_of f 0 (i + 1)) s ≡ made room j (f i) (made room j (each_of f 0 i) s)
+  made_more i s =
+      let e : 0 + i ≡ i = omega arith in
+      one_more 0 i s ∙ ap (λ z. made room j (f z) (made room j (each_of f 0 i) s)) e
+
+  -- A loop that begins later.
+  pub made_next : (from i : ℕ) (s : State) → from ≤ i → made room j (each_of f from ((i + 1) - from)) s ≡ made room j (f i) (made room j (each_of f from (i - from)) s)
+  made_next from i s l =
+      let c : (i + 1) - from ≡ (i - from) + 1 = omega arith in
+      let e : from + (i - from) ≡ i = omega arith in
+      ap (λ c. made room j (each_of f from c) s) c ∙ one_more from (i - from) s ∙ ap (λ z. made room j (f z) (made room j (each_of f from (i - from)) s)) e
 
 -- A round's three loops.
 pub round_loops : (room : ℕ) (j : Job) (s : State) →

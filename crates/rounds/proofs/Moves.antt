@@ -2,15 +2,15 @@
 -- Assumes nothing.
 use mathlib.Core.Path.{◌≡◌, refl, sym, ap, ◌∙◌}
 use mathlib.Core.List.{List, ◌++◌}
-use Prim.Native.Nat.{ℕ, ◌+◌}
+use Prim.Native.Nat.{ℕ, ◌+◌, ◌-◌, ◌≤◌}
 use native.Mathlib.Omega.{arith}
 use lib.IntN.{ℤ}
 use Rattle.std.specs.Borrow.{GName}
 use Rattle.model.specs.Job.{windows, Job as Call}
 use Rattle.model.proofs.Agree.{Agree}
-use Rattle.model.specs.Agenda.{Attempt, each_of}
+use Rattle.model.specs.Agenda.{Attempt, each_of, event_attempts}
 use Rattle.model.specs.Rounds.{State, made}
-use Rattle.model.proofs.Sweeps.{made_append, made_more}
+use Rattle.model.proofs.Sweeps.{made_append, made_more, made_next}
 use Rattle.tables.specs.Board.{board, table_of}
 use Rattle.tables.proofs.Boarding.{windows_board}
 use Rattle.tables.proofs.Holding.{serves_alike}
@@ -19,6 +19,7 @@ use Rattle.tables.specs.declared.Job.{Job}
 use Rattle.slips.proofs.Wording.{drop_later}
 use Rattle.rounds.specs.Held.{Held}
 use Rattle.rounds.specs.State.{room, state_of, Grown, Leads, fixed, Of, Moves, Made}
+use Rattle.rounds.specs.Sweeps.{between_attempts}
 use Rattle.rounds.specs.declared.Log.{Log}
 use Rattle.rounds.specs.declared.CageJob.{CageJob}
 
@@ -83,6 +84,10 @@ module _ {n : ℕ} {P : Call → Type 0} where
     pub leads_on : (f : ℕ → Call → List Attempt) (i : ℕ) → Leads n P (λ j. made (room l) j (each_of (λ i. f i j) 0 i)) b l b₁ l₁ → ((j : Call) → P j → Q j) → Leads n Q (λ j. made (room l₁) j (f i j)) b₁ l₁ b₂ l₂ → Leads n P (λ j. made (room l) j (each_of (λ i. f i j) 0 (i + 1))) b l b₂ l₂
     leads_on f i d next e = leads_then (λ j. each_of (λ i. f i j) 0 i) (f i) (λ j. each_of (λ i. f i j) 0 (i + 1)) (λ r j s. made_more r j (λ i. f i j) i s) d next e
 
+    -- In one that begins later.
+    pub leads_next : (f : ℕ → Call → List Attempt) (from i : ℕ) → from ≤ i → Leads n P (λ j. made (room l) j (each_of (λ i. f i j) from (i - from))) b l b₁ l₁ → ((j : Call) → P j → Q j) → Leads n Q (λ j. made (room l₁) j (f i j)) b₁ l₁ b₂ l₂ → Leads n P (λ j. made (room l) j (each_of (λ i. f i j) from ((i + 1) - from))) b l b₂ l₂
+    leads_next f from i o d next e = leads_then (λ j. each_of (λ i. f i j) from (i - from)) (f i) (λ j. each_of (λ i. f i j) from ((i + 1) - from)) (λ r j s. made_next r j (λ i. f i j) from i s o) d next e
+
 -- No attempt.
 pub leads_nothing : {n : ℕ} {P : Call → Type 0} (f : ℕ → Call → List Attempt) (b : List ℤ) (l : Log) → Leads n P (λ j. made (room l) j (each_of (λ i. f i j) 0 0)) b l b l
 unfolding each_of made
@@ -114,6 +119,12 @@ moves_to e q m = record { leads = rw q m.leads; stays = e ∙ m.stays }
 pub made_none : (f : ℕ → Call → List Attempt) (k : CageJob) (l : Log) → Made (λ j. each_of (λ i. f i j) 0 0) k l k l
 made_none f k l = record { leads = leads_nothing f k.board.now.words l; stays = refl }
 
+pub between_none : (from : ℕ) (k : CageJob) (l : Log) → Made (between_attempts from from) k l k l
+unfolding each_of made
+between_none from k l =
+    let none : from - from ≡ 0 = omega arith in
+    record { leads = leads_none (λ j q. rw none); stays = refl }
+
 module _ {k : CageJob} {l : Log} {k₁ : CageJob} {l₁ : Log} {k₂ : CageJob} {l₂ : Log} where
   -- These, then those.
   pub made_both : (f g : Call → List Attempt) → Made f k l k₁ l₁ → Made g k₁ l₁ k₂ l₂ → Made (λ j. f j ++ g j) k l k₂ l₂
@@ -128,6 +139,14 @@ module _ {k : CageJob} {l : Log} {k₁ : CageJob} {l₁ : Log} {k₂ : CageJob} 
   made_on f i m o =
       record {
         leads = leads_on f i m.leads (λ j q. serves_alike q m.leads.kinds) (rw (job_is m.stays, lags_are m.stays) at o.leads);
+        stays = o.stays ∙ m.stays;
+      }
+
+  -- In one that begins later.
+  pub made_between : (from e : ℕ) → from ≤ e → Made (between_attempts from e) k l k₁ l₁ → Made (λ j. event_attempts j e) k₁ l₁ k₂ l₂ → Made (between_attempts from (e + 1)) k l k₂ l₂
+  made_between from e i m o =
+      record {
+        leads = leads_next (λ e j. event_attempts j e) from e i m.leads (λ j q. serves_alike q m.leads.kinds) (rw (job_is m.stays, lags_are m.stays) at o.leads);
         stays = o.stays ∙ m.stays;
       }
 

@@ -3,7 +3,8 @@
 use mathlib.Core.Path.{◌≡◌, refl, sym, ap, subst, ◌∙◌}
 use mathlib.Core.Bool.{Bool, true, false}
 use mathlib.Core.List.{List, [], ◌∷◌}
-use Prim.Native.Nat.{ℕ, ◌+◌, ◌*◌, ◌/◌, ◌<◌}
+use Prim.Native.Nat.{ℕ, ◌+◌, ◌-◌, ◌*◌, ◌/◌, ◌≤◌, ◌<◌}
+use native.Mathlib.Omega.{arith}
 use lib.IntN.{ℤ, ◌-ℤ◌}
 use lib.ListN.{length}
 use Rattle.model.specs.Job.{h_min, windows, Windows, lags, events, Reservoir, Job as Call}
@@ -29,7 +30,7 @@ use Rattle.silence.proofs.Sparing.{still_idle, none_moves}
 use Rattle.silence.proofs.Calming.{reached_apart, calm_quiet, all_calm_each, lag_idle}
 use Rattle.rules.specs.Numbers.{number_of}
 use Rattle.rounds.specs.State.{room, state_of, fixed, Of, Moves, Made}
-use Rattle.rounds.specs.Sweeps.{first_of, first_in, Seen, Looks, Leaves, two_attempts, events_attempts}
+use Rattle.rounds.specs.Sweeps.{first_of, first_in, Seen, Looks, Leaves, two_attempts, between_attempts}
 use Rattle.rounds.specs.declared.Log.{Log}
 use Rattle.rounds.specs.declared.CageJob.{CageJob}
 use Rattle.rounds.proofs.Moves.{agree, leads_none, job_is, made_rest}
@@ -189,9 +190,9 @@ module _ (k : CageJob) where
       pub event_passed : {e : ℕ} {t : Bool} → e < k.job.events → t ≡ calm k.job.events (reservoir_of k.job.reservoir) W e d → t ≡ true → Made (λ j. event_attempts j e) k l k' l
       event_passed {e} m i c = passed (λ j. event_attempts j e) (λ j h. event_still j (U j) e (calm_still spread e (sym i ∙ c) j h (rw h.holds.events_are m)))
 
-      pub events_passed : {t : Bool} → t ≡ all_calm k.job.events (reservoir_of k.job.reservoir) W d → t ≡ true → Made events_attempts k l k' l
-      events_passed m i =
-          passed events_attempts (λ j h. events_still j (U j) (λ e o.
+      pub events_passed : {from to : ℕ} {t : Bool} → from ≤ to → to ≤ k.job.events → t ≡ all_calm k.job.events (reservoir_of k.job.reservoir) W d → t ≡ true → Made (between_attempts from to) k l k' l
+      events_passed {from} {to} o p m i =
+          passed (between_attempts from to) (λ j h. events_still j (U j) from (to - from) (rw h.holds.events_are (omega arith)) (λ e o.
           calm_still spread e (all_calm_each k.job.events (reservoir_of k.job.reservoir) W e d k.held.ranged (rw h.holds.events_are at o) (sym m ∙ i)) j h o))
 
 -- ---- the level stays

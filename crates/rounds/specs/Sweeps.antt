@@ -1,5 +1,5 @@
 -- The attempts of a round in one cage, and what is known of a level between them.
-use Rattle.std.specs.Prelude.{◌≡◌, Bool, true, false, List, [], ◌∷◌, ℕ, ◌+◌, ◌<◌, ℤ}
+use Rattle.std.specs.Prelude.{◌≡◌, Bool, true, false, List, [], ◌∷◌, ℕ, ◌+◌, ◌-◌, ◌<◌, ℤ}
 use Rattle.model.specs.Job.{events, lags, Job as Call}
 use Rattle.model.specs.Agenda.{Attempt, try, each_of, lag_attempts, event_attempts}
 use Rattle.tables.specs.Board.{board}
@@ -36,6 +36,10 @@ Leaves v b s = s ≡ slack_of (as_view v (board b)) (seen_by v (board b))
 -- Rules r and r + 1 at e, both with target e.
 abbrev pub two_attempts : ℕ → ℕ → List Attempt
 two_attempts r e = try r e e ∷ try (r + 1) e e ∷ []
+
+-- Some events in order: from, from + 1, .. below to.
+abbrev pub between_attempts : ℕ → ℕ → Call → List Attempt
+between_attempts from to j = each_of (event_attempts j) from (to - from)
 
 -- A round's two parts: all lags in table order, all events in order.
 abbrev pub lags_attempts : Call → List Attempt

@@ -1,8 +1,8 @@
 // The attempts of a round in order: of lags, and of events with rules 3 to 14, targets in event order. Those of sets come between: they read no cage.
-ghost use Rattle.std.specs.Prelude.{◌≡◌, [], ◌∷◌, ◌+◌, ◌/◌, ◌<◌, length};
+ghost use Rattle.std.specs.Prelude.{◌≡◌, [], ◌∷◌, ◌+◌, ◌/◌, ◌<◌, ◌≤◌, length};
 ghost use Rattle.model.specs.Agenda.{lag_attempts, target_attempts, three_attempts, event_attempts};
 ghost use Rattle.rounds.specs.State.{Made};
-ghost use Rattle.rounds.specs.Sweeps.{first_of, first_in, Seen, Looks, two_attempts, lags_attempts, events_attempts};
+ghost use Rattle.rounds.specs.Sweeps.{first_of, first_in, Seen, Looks, two_attempts, between_attempts, lags_attempts, events_attempts};
 
 use crate::{CageJob, Log};
 use levels::{Sight, View};
@@ -124,22 +124,30 @@ impl CageJob<'_> {
         self.three_rules(true, false, e, log);
     }
 
-    // ---- all events
+    // ---- events in order
 
-    // All events in order. All are passed over where the limits are far off, and an event where a floor under its levels shows that no rule does anything at it; d is the largest width of an amount window as it then stands.
-    pub fn all_events(&mut self, log: &mut Log<'_>)
-        ensures { Made events_attempts self.old log.old self.new log.new }
+    // The events from..to in order. Several are passed over at once where the limits are far off, and one where a floor under its levels shows that no rule does anything at it; d is the largest width of an amount window as it then stands.
+    pub fn events_between(&mut self, from: usize, to: usize, log: &mut Log<'_>)
+        requires { (from ≤ to) × (to ≤ self.old.job.events) }
+        ensures { Made (between_attempts from to) self.old log.old self.new log.new }
     {
         let n = self.job.events;
         let mut d = spread(self.board, n);
-        if self.one_cage().are_calm(d) {
+        if from + 1 < to && self.one_cage().are_calm(d) {
             return;
         }
-        for e in 0..n {
+        for e in from..to {
             if !self.one_cage().is_calm(e, d) {
                 self.event_rules(e, log);
                 d = spread(self.board, n);
             }
         }
+    }
+
+    // All of them.
+    pub fn all_events(&mut self, log: &mut Log<'_>)
+        ensures { Made events_attempts self.old log.old self.new log.new }
+    {
+        self.events_between(0, self.job.events, log);
     }
 }
