@@ -4,7 +4,7 @@ use mathlib.Core.Path.{◌≡◌, refl, sym, ap, ap₂, subst, ◌∙◌}
 use mathlib.Core.Bool.{Bool, true, false, not, cond, ◌&&◌, ◌||◌}
 use mathlib.Core.List.{List, [], ◌∷◌, ◌++◌}
 use mathlib.Core.Logic.{◌⊎◌, inl, inr}
-use Prim.Native.Nat.{ℕ, zero, suc, ◌+◌, ◌*◌, ◌/◌, ◌%◌, ◌<◌}
+use Prim.Native.Nat.{ℕ, zero, suc, ◌+◌, ◌*◌, ◌/◌, ◌%◌, ◌≤◌, ◌<◌}
 use native.Mathlib.Decide.{ℕ_discrete}
 use native.Mathlib.Omega.{arith}
 use lib.Dec.{T, eqb, eqb_refl, eqb→eq}
@@ -22,7 +22,7 @@ use Rattle.model.specs.Slips.{Explanation, premise_list, explanation, concluded_
 use Rattle.model.specs.Agenda.{Attempt, try, Each, each_of, lag_attempts, three_attempts, event_attempts}
 use Rattle.model.specs.Rounds.{State, Status, running, ended, conflict, stopped, fits, recorded, acted, attempt, made}
 use Rattle.model.specs.Reader.{same_end, gives, is_conflict, as_strict}
-use Rattle.model.proofs.Sweeps.{each_append, each_of_all}
+use Rattle.model.proofs.Sweeps.{each_append, each_of_all, made_append}
 use Rattle.model.proofs.Table.{slot_inside, windows_set}
 use Rattle.model.proofs.Agree.{Agree, with_before, family_rule_agree, cites_agree, says_agree, outcome_agree, explanation_agree}
 use Rattle.model.proofs.Neutral.{no_target, rule_alike, cites_alike, says_alike, premise_list_alike}
@@ -228,7 +228,7 @@ module _ (j : Job) (e : ℕ) (l : e < events j) (W X : Windows) (masks : (y : �
   effect_same y p q k (bound v) =
       ap₂ (λ a c. cond (meets (opposite k) a v) (cond (meets k v c) idle (narrows v)) fails) (here_same y p q (opposite k)) (here_same y p q k)
 
-  away_none : (m b : Bool) (y : ℕ) → here j e y ≡ false → finding (reservoir m b height) j W e y ≡ nothing
+  pub away_none : (m b : Bool) (y : ℕ) → here j e y ≡ false → finding (reservoir m b height) j W e y ≡ nothing
   unfolding finding
   away_none m b y q =
       let S = seen j m e W in
@@ -434,6 +434,22 @@ module _ (j : Job) (e : ℕ) (l : e < events j) (start : List ℤ) where
   event_twin room s u w =
       subst (λ n. Twin (events j) (here j e) start (made room j (event_attempts j e) s) (made room (alone j e) (attempts_of n e) u)) (sym (events_apart j (here j e) (home j e)))
       (made_twin (events j) (here j e) start room j (alone j e) (event_attempts j e) event_seen s u w)
+
+-- Events of one cage see one job: so does it at each of k neighbours of e's cage in turn.
+module _ (j : Job) (e : ℕ) (start : List ℤ) where
+  home_twin : (y : ℕ) → y < events j → cage_of j y ≡ cage_of j e → (room : ℕ) (s u : State) → Twin (events j) (here j e) start s u → Twin (events j) (here j e) start (made room j (event_attempts j y) s) (made room (alone j e) (event_attempts (alone j e) y) u)
+  home_twin y l q room s u =
+      subst (λ c. Twin (events j) (λ z. eqb (cage_of j z) c) start s u → Twin (events j) (λ z. eqb (cage_of j z) c) start (made room j (event_attempts j y) s) (made room (apart j (λ z. eqb (cage_of j z) c) (cage j c)) (event_attempts (apart j (λ z. eqb (cage_of j z) c) (cage j c)) y) u))
+      q (event_twin j y l start room s u)
+
+  pub events_twin : (i k : ℕ) → i + k ≤ events j → ((y : ℕ) → i ≤ y → y < i + k → here j e y ≡ true) → (room : ℕ) (s u : State) → Twin (events j) (here j e) start s u →
+      Twin (events j) (here j e) start (made room j (each_of (event_attempts j) i k) s) (made room (alone j e) (each_of (event_attempts (alone j e)) i k) u)
+  unfolding each_of made
+  events_twin i zero l h room s u w = w
+  events_twin i (suc k) l h room s u w =
+      rw (made_append room j (event_attempts j i) (each_of (event_attempts j) (i + 1) k) s, made_append room (alone j e) (event_attempts (alone j e) i) (each_of (event_attempts (alone j e)) (i + 1) k) u)
+      (events_twin (i + 1) k (omega arith) (λ y p q. h y (omega arith) (omega arith)) room (made room j (event_attempts j i) s) (made room (alone j e) (event_attempts (alone j e) i) u)
+      (home_twin i (omega arith) (eqb→eq (cage_of j i) (cage_of j e) (true_is (h i (omega arith) (omega arith)))) room s u w))
 
 -- ---- lags
 

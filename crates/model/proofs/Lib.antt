@@ -23,6 +23,7 @@ pub mod Adding
 pub mod Agree
 pub mod Neutral
 pub mod Alone
+pub mod Front
 pub mod Ranges
 pub mod Reading
 pub mod Accepted
