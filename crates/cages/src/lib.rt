@@ -1,11 +1,11 @@
-// A job of several cages, one of them at a time: the board as the events of one cage see it, and what moved there put back.
+// A job of several cages, one of them at a time: the board as the events of one cage see it, what moved there put back, and where that cage ends.
 #![tactic(auto)]
 
 ghost use Rattle.std.specs.Prelude.{◌≡◌, ◌<◌};
 ghost use Rattle.model.specs.Job.{End};
 ghost use Rattle.model.specs.View.{shown};
 ghost use Rattle.tables.specs.Windows.{at_end};
-ghost use Rattle.cages.specs.Masking.{together, Homed, Masked, Joined};
+ghost use Rattle.cages.specs.Masking.{together, Homed, Masked, Joined, Stretch, Ends};
 
 use tables::{Board, Windows, cage_of};
 
@@ -37,6 +37,30 @@ impl Home<'_> {
         ensures { result ≡ together self.now.table.now self.now.subject y }
     {
         cage_of(self.table, y) == cage_of(self.table, self.subject)
+    }
+
+    // Where the neighbours of the event end, from it on, that are in its cage.
+    pub fn stretch_end(&self) -> usize
+        ensures { Stretch self.now.events self.now.table.now self.now.subject result }
+    {
+        for y in self.subject + 1..self.events {
+            if !self.holds(y) {
+                return y;
+            }
+        }
+        self.events
+    }
+
+    // Where its cage ends: no event from there on is in it.
+    pub fn cage_end(&self) -> usize
+        ensures { Ends self.now.events self.now.table.now self.now.subject result }
+    {
+        for y in (self.subject + 1..self.events).rev() {
+            if self.holds(y) {
+                return y + 1;
+            }
+        }
+        self.subject + 1
     }
 
     // The board as the event sees it: the events of other cages are neutral.
