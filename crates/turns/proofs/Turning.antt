@@ -1,31 +1,37 @@
--- All rules at an event on the board of its cage: what they do there, put back, is what they do in the job; the same of the lags.
+-- All rules at neighbours of one cage on the board of the events up to its last: what they do there, put back, is what they do in the job; the same of the lags.
 -- Assumes nothing.
-use mathlib.Core.Path.{◌≡◌, refl, sym, ap, subst, ◌∙◌}
+use mathlib.Core.Path.{◌≡◌, refl, sym, ap, ap₂, subst, ◌∙◌}
 use mathlib.Core.Bool.{Bool, true, false, cond}
-use mathlib.Core.List.{List, ◌++◌}
-use Prim.Native.Nat.{ℕ, ◌+◌, ◌*◌, ◌<◌}
+use mathlib.Core.List.{List, [], ◌++◌}
+use mathlib.Core.Logic.{◌⊎◌, inl, inr, ⊎_elim}
+use Prim.Native.Nat.{ℕ, zero, suc, ◌+◌, ◌-◌, ◌*◌, ◌≤◌, ◌<◌}
 use native.Mathlib.Omega.{arith}
+use borrow.Author.Tests.{ltb-true, ltb-false, eqb-true}
+use lib.Dec.{eqb, ltb}
 use lib.IntN.{ℤ, pos, nat_abs}
-use lib.ListN.{length}
+use lib.ListN.{length, take, drop, length-append, take-append-drop, drop_of_length-le}
+use lib.Seq.{length-take-le, drop-append-le}
 use Rattle.std.specs.Borrow.{GName}
 use Rattle.integers.specs.Range.{Within}
 use Rattle.model.specs.Job.{End, t_min, t_max, h_min, h_max, windows, produces, events, sent, cage_at, cage_word, home, cage, cages, Job as Call}
 use Rattle.model.specs.View.{shown, here}
-use Rattle.model.specs.Standing.{span}
+use Rattle.model.specs.Standing.{Sane, span}
 use Rattle.model.specs.Agenda.{Attempt, each_of, event_attempts, agenda}
 use Rattle.model.specs.Rounds.{State, made}
-use Rattle.model.proofs.Alone.{masked, apart, events_apart, home_word, sent_apart, Masks, Twin, with_table, event_twin, lags_twin, same_table}
-use Rattle.tables.specs.Board.{board, table_of}
+use Rattle.model.proofs.Alone.{masked, apart, events_apart, home_word, sent_apart, Masks, Twin, with_table, events_twin, lags_twin, same_table}
+use Rattle.model.proofs.Front.{front, cut, no_sets, windows_take, cage_take, length_front, events_front, sent_front, cage_front, Fronts, events_fronts}
+use Rattle.model.proofs.Sweeps.{each_of_append}
+use Rattle.tables.specs.Board.{board, event_words, table_of}
 use Rattle.tables.specs.Job.{reservoir_of, OfCage, Holds, Kinds, Serves, Fit}
 use Rattle.tables.specs.declared.Job.{Job}
 use Rattle.tables.proofs.Boarding.{length_table, windows_board, cage_kept}
-use Rattle.cages.specs.Masking.{together, Homed, Masked, Joined}
+use Rattle.cages.specs.Masking.{together, Homed, Masked, Joined, Later, Stretch, Ends}
 use Rattle.rounds.specs.Held.{Held}
 use Rattle.rounds.specs.State.{room, state_of, Leads}
-use Rattle.rounds.specs.Sweeps.{lags_attempts, events_attempts}
+use Rattle.rounds.specs.Sweeps.{between_attempts, lags_attempts, events_attempts}
 use Rattle.rounds.specs.declared.Log.{Log}
 use Rattle.members.specs.Members.{Binds, sets_attempts}
-use Rattle.rounds.proofs.Moves.{leads_on, leads_both, leads_nothing}
+use Rattle.rounds.proofs.Moves.{leads_as, leads_both, leads_nothing}
 use Rattle.turns.specs.Works.{Works}
 use Rattle.turns.specs.declared.Call.{Call as Hand}
 use Rattle.turns.specs.Turns.{call_of, Done}
@@ -214,41 +220,220 @@ pub works_next : {j : Call} {n : ℕ} {b b' : List ℤ} → Works j n b → Kind
 works_next w a =
     record { sane = w.sane; whole = w.whole; events_are = w.events_are; kinds = λ y l. a y l ∙ w.kinds y l }
 
--- ---- all rules at an event
+-- ---- the first events alone
 
-module _ (c : Hand) (e : ℕ) (there : e < c.events) where
-  own_real : e < events (call_of c)
-  own_real = rw c.works.events_are there
+before_or_on : (y n : ℕ) → (y < n) ⊎ (n ≤ y)
+before_or_on y n = go (ltb y n) refl
+  where
+    go : (t : Bool) → ltb y n ≡ t → (y < n) ⊎ (n ≤ y)
+    go true q = inl (ltb-true y n q)
+    go false q = inr (ltb-false y n q)
 
-  module _ (k : Job) (i : ℕ) (q : i ≡ nat_abs (cage_word c.windows.now e)) (told : OfCage c.horizon.0 c.cages.now i c.events k) where
-    its_cage : reservoir_of k.reservoir ≡ home (call_of c) e
-    its_cage = told.reservoir_is ∙ ap (cage_at c.cages.now) q
+-- The first events of a board's table, and a table whose later events are another board's.
+cut_table : (n end : ℕ) (sent b : List ℤ) → end ≤ n → take (5 * end) (table_of n sent b) ≡ table_of end (take (5 * end) sent) b
+cut_table n end sent b l =
+    same_table end (take (5 * end) (table_of n sent b)) (table_of end (take (5 * end) sent) b)
+    (length-take-le (5 * end) (table_of n sent b) (omega (arith, length_table n sent b))) (length_table end (take (5 * end) sent) b)
+    (λ y p k. windows_take end (table_of n sent b) y k p ∙ windows_board n sent b y k (omega arith) ∙ sym (windows_board end (take (5 * end) sent) b y k p))
+    (λ y p. cage_take end (table_of n sent b) y p ∙ cage_kept n sent b y (omega arith) ∙ sym (cage_kept end (take (5 * end) sent) b y p ∙ cage_take end sent y p))
 
-    pub event_fits : Fit k c.lags.now
-    event_fits = fit_apart (call_of c) c.events c.board.now.words c.works (here (call_of c) e) k (nat_abs (cage_word c.windows.now e)) told.horizon_is its_cage told.events_are (c.works.sane.cage_real e own_real)
+later_table : (n end : ℕ) (sent b b' : List ℤ) → n ≤ 64 → Later end b b' → drop (5 * end) (table_of n sent b') ≡ drop (5 * end) (table_of n sent b)
+unfolding table_of
+later_table zero end sent b b' few l = refl
+later_table (suc n) end sent b b' few l = go (before_or_on n end) (later_table n end sent b b' (omega arith) l)
+  where
+    size : (c : List ℤ) → length (table_of n sent c) ≡ 5 * n
+    size = length_table n sent
 
-    pub event_held : {s : List ℤ} → Masked c.events c.windows.now e c.board.now.words s → Held k.events s
-    event_held {s} m =
-        let b = c.board.now.words in
-        let h = c.held in
+    go : (n < end) ⊎ (end ≤ n) → drop (5 * end) (table_of n sent b') ≡ drop (5 * end) (table_of n sent b) → drop (5 * end) (table_of n sent b' ++ event_words sent b' n) ≡ drop (5 * end) (table_of n sent b ++ event_words sent b n)
+    go (inl p) rec =
+        let none : (c : List ℤ) → drop (5 * end) (table_of n sent c ++ event_words sent c n) ≡ [] = λ c. drop_of_length-le (table_of n sent c ++ event_words sent c n) {i = 5 * end} (rw (length-append (table_of n sent c) (event_words sent c n)) (omega (arith, size c))) in
+        none b' ∙ sym (none b)
+    go (inr p) rec =
+        let at = l n p (omega arith) in
+        drop-append-le (5 * end) (table_of n sent b') (event_words sent b' n) (omega (arith, size b'))
+        ∙ ap₂ ◌++◌ rec (rw (at t_min, at t_max, at h_min, at h_max))
+        ∙ sym (drop-append-le (5 * end) (table_of n sent b) (event_words sent b n) (omega (arith, size b)))
+
+-- The last event of e's cage is the one before end.
+module _ (j : Call) (n : ℕ) (b : List ℤ) (w : Works j n b) (held : Held n b) {e end : ℕ} (ends : Ends n j.window_table e end) where
+  some : end ≤ events j
+  some = rw w.events_are ends.inside
+
+  front_sane : Sane (front end j)
+  front_sane =
+      let s = w.sane in
+      let size = events_front j end some in
+      record {
+        horizon_low = s.horizon_low;
+        horizon_high = s.horizon_high;
+        some_cage = s.some_cage;
+        few_cages = s.few_cages;
+        cage = s.cage;
+        cage_sign = λ y l. rw (cage_front j end some y (rw size at l)) (s.cage_sign y (omega (arith, size, some)));
+        cage_real = λ y l. rw (cage_front j end some y (rw size at l)) (s.cage_real y (omega (arith, size, some)));
+        few_events = omega (arith, size, some, s.few_events);
+        few_lags = omega arith;
+        lag = λ g l. absurd (omega arith);
+        few_sets = rw (no_sets 17) (omega arith);
+        set_sane = λ g l. absurd (let z = rw (no_sets 17) at l in omega arith);
+      }
+
+  pub front_works : Works (front end j) end b
+  front_works =
+      let inside = ends.inside in
+      record {
+        sane = front_sane;
+        whole = length_front j end some;
+        events_are = events_front j end some;
+        kinds = λ y l. w.kinds y (omega arith) ∙ ap produces (sym (sent_front j end some y h_max l));
+      }
+
+  pub front_held : Held end b
+  front_held =
+      let inside = ends.inside in
+      let few = held.ranged.few in
+      record {
+        whole = held.whole;
+        ranged = record { few = omega arith; range = λ y l. held.ranged.range y (omega arith) };
+        signed = λ y l. held.signed y (omega arith);
+      }
+
+  -- What holds of the first events on another board holds of all, if the later ones are the same.
+  pub held_all : {b' : List ℤ} → Later end b b' → Held end b' → Held n b'
+  held_all {b'} later h =
+      let few = held.ranged.few in
+      let other : (y : ℕ) → y < n → end ≤ y → (k : End) → board b' y k ≡ board b y k = λ y l o. later y o (omega arith) in
+      record {
+        whole = h.whole;
+        ranged = record { few = few; range = λ y l k. ⊎_elim (λ o. h.ranged.range y o k) (λ o. rw (other y l o k) (held.ranged.range y l k)) (before_or_on y end) };
+        signed = λ y l. ⊎_elim (λ o. h.signed y o) (λ o. rw (other y l o h_min, other y l o h_max) (held.signed y l)) (before_or_on y end);
+      }
+
+  kinds_all : (b' : List ℤ) → Later end b b' → Kinds end (board b') (board b) → Kinds n (board b') (board b)
+  kinds_all b' later a y l =
+      let few = held.ranged.few in
+      ⊎_elim (λ o. a y o) (λ o. ap produces (later y o (omega arith) h_max)) (before_or_on y end)
+
+  module _ {to : ℕ} (t : Stretch n j.window_table e to) where
+    pub inside_front : to ≤ end
+    inside_front = go (before_or_on end to)
+      where
+        go : (end < to) ⊎ (to ≤ end) → to ≤ end
+        go (inr p) = p
+        go (inl p) =
+            let behind = ends.behind in
+            let inside = t.inside in
+            let b : false ≡ true = sym (ends.away end (omega arith) (omega arith)) ∙ t.one end (omega arith) p in
+            absurd (let x : ◌≡◌ {A = ℕ} 0 1 = ap (λ t. cond t 1 0) b in omega arith)
+
+    cage_away : (y : ℕ) → e ≤ y → y < e + (to - e) → (z : ℕ) → end ≤ z → z < events j → here j y z ≡ false
+    cage_away y a o z i r =
+        let some = t.some in
+        let same : nat_abs (cage_word j.window_table y) ≡ nat_abs (cage_word j.window_table e) = eqb-true (nat_abs (cage_word j.window_table y)) (nat_abs (cage_word j.window_table e)) (t.one y a (omega arith)) in
+        ap (λ x. eqb (nat_abs (cage_word j.window_table z)) x) same ∙ ends.away z i (rw w.events_are at r)
+
+    fronts : (room : ℕ) → Fronts j end some room (between_attempts e to j) (between_attempts e to (front end j))
+    fronts room =
+        let o = inside_front in
+        let some' = t.some in
+        events_fronts j end some room e (to - e) (omega arith) cage_away
+
+    -- What was done in the job of the first events was done in the job.
+    module _ {b' : List ℤ} {l l' : Log} (later : Later end b b') (d : Leads end (λ i. i ≡ front end j) (λ i. made (room l) i (between_attempts e to i)) b l b' l') where
+      abbrev before : State
+      before = state_of n j.window_table b l
+
+      abbrev after : State
+      after = made (room l) j (between_attempts e to j) before
+
+      told_front : state_of end (take (5 * end) j.window_table) b' l' ≡ cut end after
+      told_front =
+          d.is (front end j) refl
+          ∙ ap (made (room l) (front end j) (between_attempts e to (front end j))) (ap (with_table before) (sym (cut_table n end j.window_table b ends.inside)))
+          ∙ sym ((fronts (room l)).firsts before)
+
+      table_front : table_of n j.window_table b' ≡ after.table
+      table_front =
+          sym (take-append-drop (5 * end) (table_of n j.window_table b'))
+          ∙ ap₂ ◌++◌ (cut_table n end j.window_table b' ends.inside ∙ ap (λ (s : State). s.table) told_front) (later_table n end j.window_table b b' held.ranged.few later ∙ sym ((fronts (room l)).rest before))
+          ∙ take-append-drop (5 * end) after.table
+
+      is_front : state_of n j.window_table b' l' ≡ after
+      is_front = ap (λ (s : State). with_table s (table_of n j.window_table b')) told_front ∙ ap (with_table after) table_front
+
+      pub front_leads : Leads n (λ i. i ≡ j) (λ i. made (room l) i (between_attempts e to i)) b l b' l'
+      front_leads =
+          record {
+            is = λ i q. subst (λ i. state_of n i.window_table b' l' ≡ made (room l) i (between_attempts e to i) (state_of n i.window_table b l)) (sym q) is_front;
+            kinds = kinds_all b' later d.kinds;
+            grown = d.grown;
+          }
+
+-- ---- all rules at neighbours of one cage
+
+module _ (c : Hand) {e end to : ℕ} (ends : Ends c.events c.windows.now e end) (t : Stretch c.events c.windows.now e to) where
+  abbrev F : Call
+  F = front end (call_of c)
+
+  works_first : Works F end c.board.now.words
+  works_first = front_works (call_of c) c.events c.board.now.words c.works c.held ends
+
+  held_first : Held end c.board.now.words
+  held_first = front_held (call_of c) c.events c.board.now.words c.works c.held ends
+
+  pub inside_first : to ≤ end
+  inside_first = inside_front (call_of c) c.events c.board.now.words c.works c.held ends t
+
+  own_real : e < events F
+  own_real = rw works_first.events_are ends.behind
+
+  module _ (k : Job) (i : ℕ) (q : i ≡ nat_abs (cage_word c.windows.now e)) (told : OfCage c.horizon.0 c.cages.now i end k) where
+    abbrev number : ℕ
+    number = nat_abs (cage_word F.window_table e)
+
+    its_cage : reservoir_of k.reservoir ≡ home F e
+    its_cage =
+        told.reservoir_is
+        ∙ ap (cage_at c.cages.now) (q ∙ ap nat_abs (sym (cage_front (call_of c) end (some (call_of c) c.events c.board.now.words c.works c.held ends) e ends.behind)))
+
+    pub stretch_fits : Fit k []
+    stretch_fits = fit_apart F end c.board.now.words works_first (here F e) k number told.horizon_is its_cage told.events_are (works_first.sane.cage_real e own_real)
+
+    pub stretch_held : {s : List ℤ} → Masked end F.window_table e c.board.now.words s → Held k.events s
+    stretch_held {s} m =
+        let h = held_first in
         subst (λ x. Held x s) (sym told.events_are)
         (record {
           whole = m.whole;
-          ranged = record { few = h.ranged.few; range = λ y r i. rw (m.is y r i) (shown_within (together c.windows.now e y) i (board b y i) (h.ranged.range y r i)) };
-          signed = λ y r. rw (m.is y r h_min, m.is y r h_max) (produces_shown (together c.windows.now e y) (board b y h_min) (board b y h_max) (h.signed y r));
+          ranged = record { few = h.ranged.few; range = λ y r i. rw (m.is y r i) (shown_within (together F.window_table e y) i (board c.board.now.words y i) (h.ranged.range y r i)) };
+          signed = λ y r. rw (m.is y r h_min, m.is y r h_max) (produces_shown (together F.window_table e y) (board c.board.now.words y h_min) (board c.board.now.words y h_max) (h.signed y r));
         })
 
-    module _ {s s' b'' : List ℤ} {l l' : Log} (m : Masked c.events c.windows.now e c.board.now.words s) (back : Joined c.events c.windows.now e c.board.now.words s' b'') (r : Leads k.events (Serves k c.lags.now (board s)) (λ i. made (room l) i (event_attempts i e)) s l s' l') (held : Held c.events s') where
-      pub event_kept : Held c.events b''
-      event_kept = held_back (call_of c) c.events c.board.now.words c.works c.held (here (call_of c) e) k (nat_abs (cage_word c.windows.now e)) told.horizon_is its_cage told.events_are m.is (λ i. event_attempts i e) r held b'' back.whole back.is
+    module _ {s s' b'' : List ℤ} {l l' : Log} (m : Masked end F.window_table e c.board.now.words s) (back : Joined end F.window_table e c.board.now.words s' b'') (r : Leads k.events (Serves k [] (board s)) (λ i. made (room l) i (between_attempts e to i)) s l s' l') (held : Held end s') where
+      leads_first : Leads end (λ i. i ≡ F) (λ i. made (room l) i (between_attempts e to i)) c.board.now.words l b'' l'
+      leads_first =
+          let o = inside_first in
+          let p = t.some in
+          leads_back F end c.board.now.words works_first held_first (here F e) k number told.horizon_is its_cage told.events_are m.is (between_attempts e to) r held b'' back.whole back.is
+          (events_twin F e (table_of end F.window_table c.board.now.words) e (to - e) (rw works_first.events_are (omega arith)) (λ y p q. one_front y p (omega arith)) (room l))
+        where
+          one_front : (y : ℕ) → e ≤ y → y < to → here F e y ≡ true
+          one_front y p q =
+              let o = inside_first in
+              let real = some (call_of c) c.events c.board.now.words c.works c.held ends in
+              rw (cage_front (call_of c) end real y (omega arith), cage_front (call_of c) end real e ends.behind) (t.one y p q)
 
-      pub event_works : Works (call_of c) c.events b''
-      event_works = works_next c.works (kinds_back (call_of c) c.events c.board.now.words c.works c.held (here (call_of c) e) k (nat_abs (cage_word c.windows.now e)) told.horizon_is its_cage told.events_are m.is (λ i. event_attempts i e) r held b'' back.whole back.is)
+      pub stretch_leads : Leads c.events (λ i. i ≡ call_of c) (λ i. made (room l) i (between_attempts e to i)) c.board.now.words l b'' l'
+      stretch_leads = front_leads (call_of c) c.events c.board.now.words c.works c.held ends t back.later leads_first
 
-      pub event_leads : Leads c.events (λ i. i ≡ call_of c) (λ i. made (room l) i (event_attempts i e)) c.board.now.words l b'' l'
-      event_leads =
-          leads_back (call_of c) c.events c.board.now.words c.works c.held (here (call_of c) e) k (nat_abs (cage_word c.windows.now e)) told.horizon_is its_cage told.events_are m.is (λ i. event_attempts i e) r held b'' back.whole back.is
-          (event_twin (call_of c) e own_real (table_of c.events c.windows.now c.board.now.words) (room l))
+      pub stretch_kept : Held c.events b''
+      stretch_kept =
+          held_all (call_of c) c.events c.board.now.words c.works c.held ends back.later
+          (held_back F end c.board.now.words works_first held_first (here F e) k number told.horizon_is its_cage told.events_are m.is (between_attempts e to) r held b'' back.whole back.is)
+
+      pub stretch_works : Works (call_of c) c.events b''
+      stretch_works = works_next c.works stretch_leads.kinds
 
 -- ---- lags
 
@@ -292,13 +477,21 @@ module _ {c : Hand} {l : Log} {c₁ : Hand} {l₁ : Log} {c₂ : Hand} {l₂ : L
         stays = e.stays ∙ d.stays;
       }
 
-  -- In a loop: those so far, then those of i.
-  pub done_on : (f : ℕ → Call → List Attempt) (i : ℕ) → Done (λ j. each_of (λ i. f i j) 0 i) c l c₁ l₁ → Done (f i) c₁ l₁ c₂ l₂ → Done (λ j. each_of (λ i. f i j) 0 (i + 1)) c l c₂ l₂
-  done_on f i d e =
+  -- In a loop: those of the events so far, then those of the events e..to.
+  pub done_next : (e to : ℕ) → e ≤ to → Done (λ j. each_of (event_attempts j) 0 e) c l c₁ l₁ → Done (between_attempts e to) c₁ l₁ c₂ l₂ → Done (λ j. each_of (event_attempts j) 0 to) c l c₂ l₂
+  done_next e to i d m =
+      let both = done_both (λ j. each_of (event_attempts j) 0 e) (between_attempts e to) d m in
       record {
-        leads = leads_on f i d.leads (λ j q. q ∙ sym (call_is d.stays)) (subst (λ n. Leads n (λ j. j ≡ call_of c₁) (λ j. made (room l₁) j (f i j)) c₁.board.now.words l₁ c₂.board.now.words l₂) (events_are d.stays) e.leads);
-        stays = e.stays ∙ d.stays;
+        leads = leads_as (λ j q s. ap (λ xs. made (room l) j xs s) (sym (all j))) both.leads;
+        stays = both.stays;
       }
+    where
+      all : (j : Call) → each_of (event_attempts j) 0 to ≡ each_of (event_attempts j) 0 e ++ each_of (event_attempts j) e (to - e)
+      all j =
+          let f = event_attempts j in
+          let n : to ≡ e + (to - e) = omega arith in
+          let z : 0 + e ≡ e = omega arith in
+          ap (each_of f 0) n ∙ each_of_append f 0 e (to - e) ∙ ap (λ i. each_of f 0 e ++ each_of f i (to - e)) z
 
 -- A round is its three parts.
 pub done_round : {c : Hand} {l : Log} {c₁ : Hand} {l₁ : Log} {c₂ : Hand} {l₂ : Log} {c₃ : Hand} {l₃ : Log} → Done lags_attempts c l c₁ l₁ → Done sets_attempts c₁ l₁ c₂ l₂ → Done events_attempts c₂ l₂ c₃ l₃ → Done agenda c l c₃ l₃

@@ -1,4 +1,4 @@
-// A round of a call: lags, sets, events. Of one cage all events are taken at once, of several each in its cage, since at each event a job is one of that event's cage, the others neutral.
+// A round of a call: lags, sets, events. Of one cage all events are taken at once, of several neighbours of one cage, since at each event a job is one of that event's cage, the others neutral.
 #![tactic(auto)]
 
 pub mod parts; // parts.rt: the parts of a round

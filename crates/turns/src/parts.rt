@@ -1,8 +1,8 @@
 // The parts of a round.
 ghost use Rattle.std.specs.Prelude.{◌≡◌, ◌+◌, ◌*◌, ◌<◌, ◌≤◌, length};
-ghost use Rattle.model.specs.Agenda.{event_attempts, agenda};
+ghost use Rattle.model.specs.Agenda.{agenda};
 ghost use Rattle.tables.specs.Job.{OfCage};
-ghost use Rattle.rounds.specs.Sweeps.{lags_attempts, events_attempts};
+ghost use Rattle.rounds.specs.Sweeps.{between_attempts, lags_attempts, events_attempts};
 ghost use Rattle.turns.specs.Turns.{Done};
 
 use crate::Call;
@@ -12,42 +12,51 @@ use rounds::{CageJob, Log};
 use tables::{Board, Job, cage_of};
 
 impl Call<'_> {
-    // Its job of one cage.
-    fn job_of(&self, c: usize) -> Job
+    // The job of its first n events in one cage.
+    fn job_of(&self, c: usize, n: usize) -> Job
         requires { 4 * c + 4 ≤ length self.now.cages.now }
-        ensures { OfCage self.now.horizon.0 self.now.cages.now c self.now.events result }
+        ensures { OfCage self.now.horizon.0 self.now.cages.now c n result }
     {
-        Job::of_cage(self.horizon, self.cages, c, self.events)
+        Job::of_cage(self.horizon, self.cages, c, n)
     }
 
-    // All rules at e, as its cage sees them.
-    fn one_event(&mut self, e: usize, log: &mut Log<'_>)
+    // All rules at e and at its neighbours of the same cage, as that cage sees them: on a board that is made and put back once. Lags, and events behind the cage's last, show nowhere to them. It says where the neighbours end.
+    fn stretch(&mut self, e: usize, log: &mut Log<'_>) -> usize
         requires { e < self.old.events }
-        ensures { Done (λ j. event_attempts j e) self.old log.old self.new log.new }
+        ensures { (e < result) × (result ≤ self.old.events) × Done (between_attempts e result) self.old log.old self.new log.new }
     {
-        let job = self.job_of(cage_of(self.windows, e));
-        let home = Home {
+        let all = Home {
             table: self.windows,
             events: self.events,
             subject: e,
         };
+        let to = all.stretch_end();
+        let end = all.cage_end();
+        let home = Home {
+            table: &self.windows[..5 * end],
+            events: end,
+            subject: e,
+        };
+        let job = self.job_of(cage_of(self.windows, e), end);
         let mut s = Board::blank();
         home.mask(self.board, &mut s);
         let mut cage = CageJob {
             board: &mut s,
-            lags: self.lags,
+            lags: &[],
             job,
         };
-        cage.event_rules(e, log);
+        cage.events_between(e, to, log);
         home.join(&s, self.board);
+        to
     }
 
-    // All events in order.
+    // All events in order, neighbours of one cage at once. A `while`: each stretch says where the next begins, so a range or an iterator of stretches would be no plainer.
     fn each_event(&mut self, log: &mut Log<'_>)
         ensures { Done events_attempts self.old log.old self.new log.new }
     {
-        for e in 0..self.events {
-            self.one_event(e, log);
+        let mut e = 0;
+        while e < self.events {
+            e = self.stretch(e, log);
         }
     }
 
@@ -56,7 +65,8 @@ impl Call<'_> {
     fn each_lag(&mut self, log: &mut Log<'_>)
         ensures { Done lags_attempts self.old log.old self.new log.new }
     {
-        let job = self.job_of(0);
+        let n = self.events;
+        let job = self.job_of(0, n);
         let mut cage = CageJob {
             board: &mut *self.board,
             lags: self.lags,
@@ -70,7 +80,8 @@ impl Call<'_> {
         requires { length self.old.cages.now ≡ 4 }
         ensures { Done events_attempts self.old log.old self.new log.new }
     {
-        let job = self.job_of(0);
+        let n = self.events;
+        let job = self.job_of(0, n);
         let mut cage = CageJob {
             board: &mut *self.board,
             lags: self.lags,
@@ -79,7 +90,7 @@ impl Call<'_> {
         cage.all_events(log);
     }
 
-    // All events in order: of one cage at once, of several each as its cage sees it.
+    // All events in order: of one cage at once, of several neighbours of one cage at once, as it sees them.
     fn every_event(&mut self, log: &mut Log<'_>)
         ensures { Done events_attempts self.old log.old self.new log.new }
     {
