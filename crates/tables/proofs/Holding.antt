@@ -10,15 +10,27 @@ use lib.IntN.{ℤ, pos, negsuc}
 use lib.Signed.{le_z, ◌≤ℤ◌}
 use Rattle.integers.proofs.Linear.{ints}
 use Rattle.model.specs.Job as model
-use Rattle.model.specs.Job.{End, t_min, t_max, h_min, h_max, Windows, produces, consumes, events, sent}
+use Rattle.model.specs.Job.{End, t_min, t_max, h_min, h_max, Windows, windows, produces, consumes, events, sent}
 use Rattle.model.specs.View.{side, here, shown, seen}
-use Rattle.model.specs.Standing.{SaneLags, Standing}
-use Rattle.tables.specs.Board.{board}
+use Rattle.model.specs.Standing.{Sane, SaneLags, Standing}
+use Rattle.model.proofs.Levels.{kind_kept}
+use Rattle.tables.specs.Board.{board, Loaded}
 use Rattle.tables.specs.Job.{reservoir_of, Holds, board_call, Kinds, Serves, Fit}
 use Rattle.tables.proofs.Boarding.{length_table, windows_board, cage_kept}
 use Rattle.tables.specs.declared.Job.{Job}
 
 module _ {k : Job} {ws : List ℤ} {j : model.Job} (h : Holds k ws j) where
+  -- A job whose questions let it pass fits.
+  pub fit_of : Sane j → Fit k ws
+  fit_of s = record {
+    horizon_low = rw h.horizon_is at s.horizon_low;
+    horizon_high = rw h.horizon_is at s.horizon_high;
+    cage = rw h.reservoir_is at (s.cage 0 s.some_cage);
+    few_events = rw h.events_are at s.few_events;
+    few_lags = rw h.lags_are at s.few_lags;
+    lag = rw (h.events_are, h.lags_are) at s.lag;
+  }
+
   pub lags_of : Fit k ws → SaneLags j
   lags_of f = rw (h.events_are, h.lags_are) f.lag
 
@@ -37,6 +49,18 @@ module _ {k : Job} {ws : List ℤ} {j : model.Job} (h : Holds k ws j) where
       go t_max v = refl
       go h_min v = refl
       go h_max v = refl
+
+  -- Windows that stand in a call serve it.
+  pub serves_standing : {W : Windows} → Standing j W → Serves k ws W j
+  serves_standing {W} s = record { holds = h; kinds = kind_kept j W s.within s.heights }
+
+  -- So does the board that its window table was brought onto.
+  pub serves_loaded : {b : List ℤ} → Loaded k.events j.window_table b → Serves k ws (board b) j
+  serves_loaded {b} l =
+      record {
+        holds = h;
+        kinds = λ y m. ap produces (sym (windows_board k.events j.window_table b y h_max (rw h.events_are at m)) ∙ ap (λ (t : List ℤ). windows t y h_max) l.is);
+      }
 
 -- The call that a board makes.
 module _ (k : Job) (ws b : List ℤ) where

@@ -71,6 +71,35 @@ impl Board {
         Height(self.words[192 + y])
     }
 
+    // The ends by their names become v, each with its measure, so that a minute is never stored as an amount; no other word changes.
+    pub fn set_t_min(&mut self, y: usize, v: Time)
+        requires { y < 64 }
+        ensures { self.new.words ≡ set self.old.words (64 * word t_min + y) v.0 }
+    {
+        self.set_end(End::TMin, y, v.into());
+    }
+
+    pub fn set_t_max(&mut self, y: usize, v: Time)
+        requires { y < 64 }
+        ensures { self.new.words ≡ set self.old.words (64 * word t_max + y) v.0 }
+    {
+        self.set_end(End::TMax, y, v.into());
+    }
+
+    pub fn set_h_min(&mut self, y: usize, v: Height)
+        requires { y < 64 }
+        ensures { self.new.words ≡ set self.old.words (64 * word h_min + y) v.0 }
+    {
+        self.set_end(End::HMin, y, v.into());
+    }
+
+    pub fn set_h_max(&mut self, y: usize, v: Height)
+        requires { y < 64 }
+        ensures { self.new.words ≡ set self.old.words (64 * word h_max + y) v.0 }
+    {
+        self.set_end(End::HMax, y, v.into());
+    }
+
     // Event y's windows.
     pub fn windows(&self, y: usize) -> Windows
         requires { y < 64 }
