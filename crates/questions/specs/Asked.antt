@@ -1,9 +1,10 @@
 -- The answer to a call's questions, read as the papers' number and place; a set's members.
-use Rattle.std.specs.Prelude.{Bool, not, ◌&&◌, List, ℕ, ℤ, pos, get_or, Result, Ok, Err}
+use Rattle.std.specs.Prelude.{◌≡◌, Bool, not, ◌&&◌, List, ℕ, ◌<◌, ℤ, pos, get_or, Result, Ok, Err}
 use Rattle.integers.specs.Range.{eq_z}
-use Rattle.model.specs.Job.{every}
+use Rattle.model.specs.Job.{every, set_begin}
 use Rattle.model.specs.Questions as model
 use Rattle.model.specs.Questions.{is_event}
+use Rattle.sets.specs.declared.Set.{Set}
 use Rattle.questions.specs.Numbers.{number_of}
 use Rattle.questions.specs.declared.Question.{Question}
 use Rattle.questions.specs.declared.Refusal.{Refusal}
@@ -17,6 +18,12 @@ check_of (Err r) = model.refuse (number_of r.question) r.place
 abbrev pub put : {A : Type 0} → Result A Question → model.Check
 put (Ok _) = model.pass
 put (Err q) = model.refuse (number_of q) 0
+
+-- It is set g of the table.
+pub record Nth (ws : List ℤ) (g : ℕ) (s : Set) : Type 0 where
+  pub table_is : s.table.now ≡ ws
+  pub at_is : s.at ≡ set_begin ws g
+  pub near : s.at < 100000000000
 
 -- Of a set's members, member i is another than those before it.
 abbrev pub is_new : List ℤ → ℕ → Bool

@@ -1,19 +1,45 @@
 // The questions to the set table. Any words are walked. That n is at most 64 stays in contracts, as in asked.rt.
-ghost use Rattle.std.specs.Prelude.{◌≡◌, ◌<◌, ◌≤◌, T, length};
+ghost use Rattle.std.specs.Prelude.{◌≡◌, Bool, ℕ, ◌<◌, ◌≤◌, T, length};
 ghost use Rattle.model.specs.Job.{every};
-ghost use Rattle.model.specs.Questions.{set_whole, members_right, totals_right, total_in_range, set_questions};
-ghost use Rattle.questions.specs.Asked.{check_of, is_new, member_right};
+ghost use Rattle.model.specs.Questions.{each, set_whole, members_right, totals_right, total_in_range, set_questions};
+ghost use Rattle.questions.specs.Numbers.{number_of};
+ghost use Rattle.questions.specs.Asked.{check_of, Nth, is_new, member_right};
 
-use crate::asked::each;
+use crate::asked::refuse;
 use crate::{Question, Refusal};
 use sets::{LEAST_TOTAL, MOST_TOTAL, Set, sets};
 use tables::Word;
 
-// Is set g one of the first 16, and whole?
-fn set_whole(ws: &[i32], g: usize) -> bool
-    ensures { result ≡ set_whole ws.now g }
+// A question to the first m sets of a table in order, `right` telling the answer of each, by its number and the set. One set after another: to look for each from the table's start would walk it anew for each.
+#[tactic(auto, unfolding(model::specs::Job::set_begin))]
+fn each_set<'a, F: Fn(usize, Set<'a>) -> bool>(
+    question: Question,
+    table: &'a [i32],
+    m: usize,
+    right: F,
+) -> Result<(), Refusal>
+    requires few { m ≤ 17 }
+    requires callable { (g : ℕ) → (s : Set) → g < m → Nth table.now g s → F.pre right g s }
+    ensures { (ok : ℕ → Bool) →
+        ((g : ℕ) → (s : Set) → g < m → Nth table.now g s → (r : Bool) → F.post right g s r → r ≡ ok g) →
+        check_of result ≡ each (number_of question) ok 0 m }
 {
-    g < 16 && Set::of_table(ws, g + 1).at <= ws.len()
+    let mut set = Set { table, at: 0 };
+    for g in 0..m {
+        if !right(g, set) {
+            return refuse(question, g);
+        }
+        set = set.next();
+    }
+    Ok(())
+}
+
+// Is set g one of the first 16, and whole?
+fn set_whole(g: usize, set: Set) -> bool
+    requires { Nth set.table.now g set }
+    ensures { result ≡ set_whole set.entry.table.now g }
+{
+    g < 16 && set.next().at <= set.table.len()
 }
 
 // Is member i of a set another than those before it?
@@ -33,11 +59,11 @@ fn all_right(n: usize, members: &[i32]) -> bool
 }
 
 // Has set g, which is whole, members, all of them so?
-fn members_right(n: usize, ws: &[i32], g: usize) -> bool
-    requires { (n ≤ 64) × T (set_whole ws.now g) }
-    ensures { result ≡ members_right n ws.now g }
+fn members_right(n: usize, g: usize, set: Set) -> bool
+    requires { (n ≤ 64) × Nth set.table.now g set × T (set_whole set.table.now g) }
+    ensures { result ≡ members_right n set.entry.table.now g }
 {
-    let members = Set::of_table(ws, g).members();
+    let members = set.members();
     !members.is_empty() && all_right(n, members)
 }
 
@@ -48,11 +74,10 @@ fn total_in_range(x: i32) -> bool
 }
 
 // Are the totals of set g in range, the least not over the most?
-fn totals_right(ws: &[i32], g: usize) -> bool
-    requires { g ≤ 17 }
-    ensures { result ≡ totals_right ws.now g }
+fn totals_right(g: usize, set: Set) -> bool
+    requires { Nth set.table.now g set }
+    ensures { result ≡ totals_right set.entry.table.now g }
 {
-    let set = Set::of_table(ws, g);
     let least = set.word(0);
     let most = set.word(1);
     total_in_range(least) && total_in_range(most) && least <= most
@@ -64,7 +89,7 @@ pub fn set_questions(n: usize, ws: &[i32]) -> Result<(), Refusal>
     ensures { check_of result ≡ set_questions n ws.now }
 {
     let m = sets(ws);
-    each(Question::Set, m, |g| set_whole(ws, g))?;
-    each(Question::Members, m, |g| members_right(n, ws, g))?;
-    each(Question::Totals, m, |g| totals_right(ws, g))
+    each_set(Question::Set, ws, m, |g, set| set_whole(g, set))?;
+    each_set(Question::Members, ws, m, |g, set| members_right(n, g, set))?;
+    each_set(Question::Totals, ws, m, |g, set| totals_right(g, set))
 }

@@ -2,7 +2,7 @@
 #![tactic(auto)]
 
 ghost use Rattle.std.specs.Prelude.{◌≡◌, ◌+◌, ◌<◌, ◌≤◌, length, take, drop};
-ghost use Rattle.model.specs.Job.{set_begin, begun};
+ghost use Rattle.model.specs.Job.{to_count, set_begin, begun};
 ghost use Rattle.sets.specs.Sets.{word_at, count_at};
 
 // A job has at most 16 sets: a seventeenth that begins is one too many.
@@ -12,6 +12,13 @@ pub const MOST_BEGUN: usize = 17;
 pub const MOST_TOTAL: i32 = 639936;
 
 pub const LEAST_TOTAL: i32 = -639936;
+
+// As many as a word says; a word under 0 says none.
+fn to_count(w: i32) -> usize
+    ensures { (result ≡ to_count w) × (result < 2147483648) }
+{
+    w.max(0) as usize
+}
 
 // A set of a table, by the place of its first word.
 #[derive(Clone, Copy)]
@@ -33,7 +40,7 @@ impl<'a> Set<'a> {
     pub fn count(self) -> usize
         ensures { (result ≡ count_at self.entry.table.now self.entry.at) × (result < 2147483648) }
     {
-        usize::try_from(self.word(2)).unwrap_or(0)
+        to_count(self.word(2))
     }
 
     // Its members, where the table has them all.
@@ -52,8 +59,10 @@ impl<'a> Set<'a> {
             × (result.at ≡ self.entry.at + 3 + count_at self.entry.table.now self.entry.at)
             × (result.at < self.entry.at + 2147483651) }
     {
+        // Straight to the word: no sum passes usize here, and a walk of a table waits for each of these steps.
+        let count = self.table.get(self.at + 2).copied().unwrap_or(0);
         Set {
-            at: self.at + 3 + self.count(),
+            at: self.at + 3 + to_count(count),
             ..self
         }
     }

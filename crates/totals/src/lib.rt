@@ -39,10 +39,12 @@ pub fn is_member(set: Set, y: usize) -> bool
 
 // The limit that the sum of its members must reach on a side: of the least total and the most.
 fn limit(set: Set, mirror: bool) -> Height
-    requires { Within (word_at set.table.now set.at 1) 639936 }
+    requires { (set.at + 3 ≤ length set.table.now) × Within (word_at set.table.now set.at 1) 639936 }
     ensures { result.0 ≡ limit_at mirror set.entry.table.now set.entry.at }
 {
-    side_limit(mirror, Height(set.word(0)), Height(set.word(1)))
+    let least = set.table[set.at];
+    let most = set.table[set.at + 1];
+    side_limit(mirror, Height(least), Height(most))
 }
 
 // Its members' h_max on a side, added up.

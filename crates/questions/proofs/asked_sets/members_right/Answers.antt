@@ -4,15 +4,17 @@ use Rattle.questions.proofs.asked_sets.members_right.Goals as goal
 
 pub members-members-requires : goal.members-members-requires
 members-members-requires c =
-    let s = c.of_table.ensures in
-    rw s.0 (whole_ends c.args.ws.now c.args.g c.requires.1 s.1)
+    let r = c.requires in
+    whole_ends c.args.set.table.now c.args.g r.2 r.1.at_is
 
 pub returns-then-not-is_empty : goal.returns-then-not-is_empty
 returns-then-not-is_empty c =
-    let h = members_are c.args.n c.args.ws.now c.args.g c.requires.1 c.of_table.ensures.1 (rw c.of_table.ensures.0 at c.members-members.ensures) in
+    let r = c.requires in
+    let h = members_are c.args.n c.args.set.table.now c.args.g r.2 r.1.at_is c.members-members.ensures in
     search rules
 
 pub returns-else-not-is_empty : goal.returns-else-not-is_empty
 returns-else-not-is_empty c =
-    let h = members_are c.args.n c.args.ws.now c.args.g c.requires.1 c.of_table.ensures.1 (rw c.of_table.ensures.0 at c.members-members.ensures) in
+    let r = c.requires in
+    let h = members_are c.args.n c.args.set.table.now c.args.g r.2 r.1.at_is c.members-members.ensures in
     search rules
