@@ -124,7 +124,8 @@ fn spares(f: Family, x: Effect) -> bool
 
 // ---- one slip's facts
 
-// Of a family of reservoir rules with target y and effect x, in a view.
+// Of a family of reservoir rules with target y and effect x, in a view. By itself: the loop over the events is no part of a slip of a lag.
+#[inline(never)]
 fn level_citing(s: Sight, f: Family, y: usize, x: Effect) -> LevelCiting
     requires { (v : ℤ) → effect_of x ≡ narrows v → Within v 20000 }
     ensures { LevelCites (family_of f) s.entry.view (board s.entry.board.now.words) y (effect_of x) result }
@@ -160,6 +161,7 @@ fn lag_citing(b: &Board, lag: Lag, starts: bool, ends: bool) -> LagCiting
 }
 
 // What decides the facts of the slip of an attempt with effect x.
+#[inline(always)]
 pub fn citing(a: Attempt, x: Effect) -> Citing
     requires { Acts a x }
     ensures { Cites a.entry.job a.entry.lags.now (on a.entry) (rule_of a.entry.rule) a.entry.subject a.entry.target x result }

@@ -3,7 +3,7 @@
 use mathlib.Core.Path.{◌≡◌, refl, sym, ap, subst, ◌∙◌}
 use mathlib.Core.Bool.{Bool, true, false, cond, ◌&&◌}
 use mathlib.Core.List.{List, [], ◌∷◌, ◌++◌}
-use Prim.Native.Nat.{ℕ, ◌+◌, ◌<◌}
+use Prim.Native.Nat.{ℕ, ◌+◌, ◌<◌, ◌≤◌}
 use native.Mathlib.Omega.{arith}
 use lib.Dec.{eqb, eqb_refl}
 use lib.IntN.{ℤ, pos, nat_abs, ◌-ℤ◌}
@@ -38,6 +38,7 @@ use Rattle.facts.specs.Quotes.{cites_of, says_of, Shows, TotalCites}
 use Rattle.facts.specs.declared.Citing.{Citing}
 use Rattle.slips.specs.Slip.{slip_of, Writes}
 use Rattle.slips.proofs.Filling.{set_premises}
+use Rattle.slips.proofs.Wording.{own_kind}
 use Rattle.rounds.specs.Held.{Held}
 use Rattle.rounds.specs.State.{status_of, room, state_of, Leads}
 use Rattle.rounds.specs.Attempts.{stored, status_after, written, Entered}
@@ -55,6 +56,10 @@ rule_is false = refl
 number_is : (m : Bool) → number_of (total m) ≡ number m
 number_is true = refl
 number_is false = refl
+
+few : (m : Bool) → number m ≤ 18
+few true = omega arith
+few false = omega arith
 
 -- ---- a call's set
 
@@ -160,9 +165,10 @@ amount_within true h_max v w = w
 amount_within false h_min v w = record { most = omega arith; least = omega arith }
 amount_within false h_max v w = record { most = omega arith; least = omega arith }
 
-module _ (k : SetJob) {m : Bool} {y : ℕ} {x : Done} {s : List ℤ} {c : Citing} (does : Does k m y x) (alone : Alone k (count_at k.set.table.now k.set.at) s) (cites : TotalCites m y (effect_of x) c) where
+-- It names its rule by number, and by the end of the rule's bounds.
+module _ (k : SetJob) {m : Bool} {y : ℕ} {x : Done} {s : List ℤ} {c : Citing} {r : ℕ} {i : End} (does : Does k m y x) (alone : Alone k (count_at k.set.table.now k.set.at) s) (cites : TotalCites m y (effect_of x) c) (named : r ≡ number_of (total m)) (own : i ≡ own_end (total m)) where
   -- It can be written.
-  pub writes : Writes k.events (board s) c k.subject y
+  pub writes : Writes k.events (board s) c r k.subject y
   writes =
       record {
         ranged = record {
@@ -170,6 +176,7 @@ module _ (k : SetJob) {m : Bool} {y : ℕ} {x : Done} {s : List ℤ} {c : Citing
           range = λ z l i. rw (alone.is z (omega (arith, k.held.ranged.few)) i) (amount_within _ i (board k.board.now.words z i) (k.held.ranged.range z l i));
         };
         known = cites.known k.events;
+        numbered = rw (named, number_is m) (few m);
         subject = omega (arith, k.placed.there, k.placed.few);
         target = omega (arith, does.target, k.held.ranged.few);
       }
@@ -190,20 +197,20 @@ module _ (k : SetJob) {m : Bool} {y : ℕ} {x : Done} {s : List ℤ} {c : Citing
         ap (λ i. premise_list i (cites_of c (board s)) (says_of c (board s))) (sym h.events_are)
         ∙ rw (rule_is m) (set_premises j k.subject (board k.board.now.words) (board s) cites shows (in_set_is k h y ∙ does.member))
 
-    slip_is : slip_of k.events (board s) c (total m) k.subject y x ≡ explanation (number m) j (windows (table_of k.events j.window_table k.board.now.words)) k.subject y (effect_of x)
+    slip_is : slip_of k.events (board s) c r i k.subject y x ≡ explanation (number m) j (windows (table_of k.events j.window_table k.board.now.words)) k.subject y (effect_of x)
     slip_is =
         let W = windows (table_of k.events j.window_table k.board.now.words) in
-        let here : slip_of k.events (board s) c (total m) k.subject y x ≡ explanation (number m) j (board k.board.now.words) k.subject y (effect_of x) = rw (premises_are, number_is m, rule_is m) in
+        let here : slip_of k.events (board s) c r i k.subject y x ≡ explanation (number m) j (board k.board.now.words) k.subject y (effect_of x) = rw (premises_are, named, number_is m, own, own_kind (total m) (effect_of x), rule_is m) in
         here ∙ explanation_agree j (board k.board.now.words) W (agree_sym (events j) W (board k.board.now.words) (table_agree k h)) (number m) k.subject y (effect_of x) (set_there k h m)
 
   -- Entered, and the new end stored.
-  module _ {l l' : Log} {b' : List ℤ} {t : Bool} (entered : Entered (slip_of k.events (board s) c (total m) k.subject y x) (status_after (effect_of x)) l l') (told : t ≡ written (status_of l'.status)) (put : b' ≡ cond t (stored (own_end (total m)) y (effect_of x) k.board.now.words) k.board.now.words) where
+  module _ {l l' : Log} {b' : List ℤ} {t : Bool} (entered : Entered (slip_of k.events (board s) c r i k.subject y x) (status_after (effect_of x)) l l') (told : t ≡ written (status_of l'.status)) (put : b' ≡ cond t (stored i y (effect_of x) k.board.now.words) k.board.now.words) where
     pub act_held : Held k.events b'
-    act_held = entered_held (number m) k.held does.target does.narrower does.range entered told (rw (rule_is m) put)
+    act_held = entered_held (number m) k.held does.target does.narrower does.range entered told (rw (rule_is m, ← own) put)
 
     pub act_moved : {k' : SetJob} → is_idle (effect_of x) ≡ false → k'.board.now.words ≡ b' → fixed k' ≡ fixed k → Moved (λ j. acted (room l) (number m) j k.subject y (effect_of x)) k l k' l'
     act_moved busy same stays =
-        record { leads = rw same (act_leads (number m) k.held does.target does.narrower does.range entered told (rw (rule_is m) put) busy slip_is); stays = stays }
+        record { leads = rw same (act_leads (number m) k.held does.target does.narrower does.range entered told (rw (rule_is m, ← own) put) busy slip_is); stays = stays }
 
 -- ---- in turn
 

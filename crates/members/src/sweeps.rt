@@ -15,11 +15,11 @@ use facts::premises::total_citing;
 use rounds::Log;
 use rounds::attempts::store_if;
 use rules::{Effect, Rule};
-use sets::{Set, sets as begun};
+use sets::{MOST_BEGUN, Set};
 use silence::slack::is_spared;
 use slips::Header;
 use slips::writing::Quoting;
-use tables::{Board, End, Height};
+use tables::{Board, Height};
 use totals::{member, slack, total_effect};
 
 // Event y's amounts stored on a board.
@@ -27,8 +27,8 @@ fn show_event(b: &Board, y: usize, s: &mut Board)
     requires { y < 64 }
     ensures { s.new.words ≡ shown_event b.now.words y s.old.words }
 {
-    s.set_end(End::HMin, y, b.end(End::HMin, y));
-    s.set_end(End::HMax, y, b.end(End::HMax, y));
+    s.set_h_min(y, b.h_min(y));
+    s.set_h_max(y, b.h_max(y));
 }
 
 impl SetJob<'_> {
@@ -58,7 +58,8 @@ impl SetJob<'_> {
         };
         let rule = Rule::Total { mirror };
         let header = Header {
-            rule,
+            number: rule.number(),
+            end: rule.own_end(),
             subject: self.subject,
             target: y,
             effect: x,
@@ -127,7 +128,10 @@ pub fn all_sets(board: &mut Board, events: usize, sets: &[i32], log: &mut Log<'_
         × Held events board.new.words }
 {
     let mut set = Set { table: sets, at: 0 };
-    for subject in 0..begun(sets) {
+    for subject in 0..MOST_BEGUN {
+        if set.at >= sets.len() {
+            break;
+        }
         let mut job = SetJob {
             board: &mut *board,
             events,

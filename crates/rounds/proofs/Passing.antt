@@ -6,17 +6,18 @@ use mathlib.Core.List.{List, [], ◌∷◌}
 use Prim.Native.Nat.{ℕ, ◌+◌, ◌-◌, ◌*◌, ◌/◌, ◌≤◌, ◌<◌}
 use native.Mathlib.Omega.{arith}
 use lib.IntN.{ℤ, ◌-ℤ◌}
-use lib.ListN.{length}
+use lib.ListN.{length, take}
 use Rattle.model.specs.Job.{h_min, windows, Windows, lags, events, Reservoir, Job as Call}
 use Rattle.model.specs.View.{side_end, side_limit, View, view, here, seen}
 use Rattle.model.specs.Levels.{most}
 use Rattle.model.specs.Rules.{Rule, rule, subjects, Family, level, time, height, reservoir, own_end}
 use Rattle.model.specs.Agenda.{Attempt, try, Each, lag_attempts, target_attempts, event_attempts}
-use Rattle.model.specs.Rounds.{State, attempt, made}
+use Rattle.model.specs.Rounds.{State, Status, attempt, made}
 use Rattle.model.proofs.Agree.{most_agree, look_agree, outcome_agree}
 use Rattle.model.proofs.Silence.{Idle, Still, Quiet, made_still, targets_still, event_still, events_still, level_stays}
 use Rattle.tables.specs.Board.{board, table_of}
-use Rattle.tables.specs.Job.{reservoir_of, board_call, Serves}
+use Rattle.tables.specs.Job.{reservoir_of, board_call, Kinds, Serves}
+use Rattle.tables.specs.declared.Job.{Job}
 use Rattle.tables.proofs.Boarding.{length_table}
 use Rattle.tables.proofs.Holding.{lags_of, board_serves, serves_alike}
 use Rattle.levels.specs.Values.{as_view, seen_by, Views, Sighted}
@@ -29,7 +30,7 @@ use Rattle.silence.specs.Calm.{reaches_early, spread_of, calm, all_calm, lag_kep
 use Rattle.silence.proofs.Sparing.{still_idle, none_moves}
 use Rattle.silence.proofs.Calming.{reached_apart, calm_quiet, all_calm_each, lag_idle}
 use Rattle.rules.specs.Numbers.{number_of}
-use Rattle.rounds.specs.State.{room, state_of, fixed, Of, Moves, Made}
+use Rattle.rounds.specs.State.{status_of, room, state_of, fixed, Of, Moves, Made}
 use Rattle.rounds.specs.Sweeps.{first_of, first_in, Seen, Looks, Leaves, two_attempts, between_attempts}
 use Rattle.rounds.specs.declared.Log.{Log}
 use Rattle.rounds.specs.declared.CageJob.{CageJob}
@@ -197,30 +198,46 @@ module _ (k : CageJob) where
 
 -- ---- the level stays
 
--- An attempt of rules 5, 8, 11 and 14 leaves the level as it is.
-pub leaves_on : {k k' : CageJob} {l l' : Log} {r y : ℕ} {v : Sight} {s : ℤ} → Sees k r height v → Leaves v k.board.now.words s → y < k.job.events
-    → Made (λ j. try r v.subject y ∷ []) k l k' l' → Leaves v k'.board.now.words s
-unfolding made
-leaves_on {k} {k'} {l} {l'} {r} {y} {v} sees leaves m d =
-    let b = k.board.now.words in
-    let b' = k'.board.now.words in
-    let j = board_call k.job k.lags.now b in
-    let served = board_serves k.job k.lags.now b in
-    let next : Serves k.job k.lags.now (board b') j = serves_alike served d.leads.kinds in
+-- An attempt of rules 5, 8, 11 and 14 leaves the level as it is, whatever list it is made with: on any two boards between which the window table goes as the attempt says.
+pub leaves_on : (k : Job) (ws b b' : List ℤ) (r y : ℕ) {v : Sight} {s : ℤ}
+    → rule r ≡ reservoir v.stance.mirror v.stance.strict height
+    → Views k.events (reservoir_of k.reservoir) v.stance.mirror v.stance.strict v.subject v
+    → v.subject < k.events
+    → Leaves v b s
+    → y < k.events
+    → (words : ℕ) (log : List ℤ) (slips last : ℕ) (status : Status)
+    → ((j : Call)
+    → Serves k ws (board b) j
+    → table_of k.events j.window_table b' ≡ (attempt words r j v.subject y (record { table = table_of k.events j.window_table b; log = log; slips = slips; last = last; status = status })).table)
+    → Kinds k.events (board b') (board b)
+    → Leaves v b' s
+leaves_on k ws b b' r y {v} {s} rule_is views real leaves m words log slips last status moved kinds =
+    let j = board_call k ws b in
+    let served = board_serves k ws b in
+    let next : Serves k ws (board b') j = serves_alike served kinds in
     let h = served.holds in
-    let n = k.job.events in
+    let n = k.events in
     let e = v.subject in
     let sent = j.window_table in
-    let st = state_of n sent b l in
+    let st : State = record { table = table_of n sent b; log = log; slips = slips; last = last; status = status } in
     let E = view j v.stance.mirror v.stance.strict e in
     let level : Windows → ℤ = λ W. most E (seen j v.stance.mirror e W) in
-    let own : own_end (rule r) ≡ side_end v.stance.mirror h_min = rw sees.rule_is in
+    let own : own_end (rule r) ≡ side_end v.stance.mirror h_min = rw rule_is in
     let whole : length (table_of n sent b) ≡ 5 * events j = rw h.events_are (length_table n sent b) in
-    let there : e < events j = rw h.events_are sees.looks.subject in
+    let there : e < events j = rw h.events_are real in
     let same : (c : List ℤ) → level (windows (table_of n sent c)) ≡ level (board c) = λ c. most_agree E E.before (λ y l. refl) (seen j v.stance.mirror e (windows (table_of n sent c))) (seen j v.stance.mirror e (board c)) (look_agree (here j e) v.stance.mirror (events j) (windows (table_of n sent c)) (board c) (rw h.events_are (agree n sent c))) there in
-    let stays = level_stays (room l) r j e y st v.stance.mirror own whole (rw h.events_are m) v.stance.strict there in
-    let table : windows (table_of n sent b') ≡ windows (attempt (room l) r j e y st).table = ap (λ (x : State). windows x.table) (d.leads.is j served) in
+    let stays = level_stays words r j e y st v.stance.mirror own whole (rw h.events_are m) v.stance.strict there in
+    let table : windows (table_of n sent b') ≡ windows (attempt words r j e y st).table = ap windows (moved j served) in
     let is : level (board b) ≡ level (board b') = sym (same b) ∙ sym stays ∙ ap level (sym table) ∙ same b' in
-    let limit = side_limit v.stance.mirror (reservoir_of k.job.reservoir) in
-    let at : (c : List ℤ) → Serves k.job k.lags.now (board c) j → slack_of (as_view v (board c)) (seen_by v (board c)) ≡ level (board c) -ℤ limit = λ c s. ap (λ (E : View). slack_of E (seen_by v (board c))) (sees.looks.views.is (board c)) ∙ ap (λ x. x -ℤ limit) (sym (most_here v.stance.mirror v.stance.strict e (board c) s there)) in
+    let limit = side_limit v.stance.mirror (reservoir_of k.reservoir) in
+    let at : (c : List ℤ) → Serves k ws (board c) j → slack_of (as_view v (board c)) (seen_by v (board c)) ≡ level (board c) -ℤ limit = λ c s. ap (λ (E : View). slack_of E (seen_by v (board c))) (views.is (board c)) ∙ ap (λ x. x -ℤ limit) (sym (most_here v.stance.mirror v.stance.strict e (board c) s there)) in
     leaves ∙ at b served ∙ ap (λ x. x -ℤ limit) is ∙ sym (at b' next)
+
+-- So does one that was made.
+pub leaves_made : {k k' : CageJob} {l l' : Log} {r y : ℕ} {v : Sight} {s : ℤ} → Sees k r height v → Leaves v k.board.now.words s → y < k.job.events
+    → Made (λ j. try r v.subject y ∷ []) k l k' l' → Leaves v k'.board.now.words s
+unfolding made
+leaves_made {k} {k'} {l} {r = r} {y} sees leaves m d =
+    leaves_on k.job k.lags.now k.board.now.words k'.board.now.words r y sees.rule_is sees.looks.views sees.looks.subject leaves m
+    (room l) (take l.used l.buffer.now) l.slips l.last (status_of l.status)
+    (λ j h. ap (λ (x : State). x.table) (d.leads.is j h)) d.leads.kinds

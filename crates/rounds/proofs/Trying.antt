@@ -14,7 +14,7 @@ use Rattle.integers.specs.Range.{Within}
 use Rattle.integers.proofs.Linear.{ints}
 use Rattle.model.specs.Job.{End, t_min, t_max, h_min, h_max, word, windows, Windows, produces, events, Job as Call}
 use Rattle.model.specs.Standing.{span, Ranged}
-use Rattle.model.specs.Rules.{Rule, lag_upper, lag_lower, reservoir, total, rule, subjects, own_end, finding, Effect, idle, narrows, fails, effect}
+use Rattle.model.specs.Rules.{Rule, Family, level, time, height, lag_upper, lag_lower, reservoir, total, rule, subjects, own_end, finding, Effect, idle, narrows, fails, effect}
 use Rattle.model.specs.Slips.{Explanation, slip_words, explanation}
 use Rattle.model.specs.Agenda.{try}
 use Rattle.model.specs.Rounds as model
@@ -27,7 +27,7 @@ use Rattle.tables.specs.declared.Job.{Job}
 use Rattle.tables.proofs.Boarding.{table_set, board_set_same, board_set_event, board_set_end}
 use Rattle.tables.proofs.Holding.{lags_of}
 use Rattle.rules.specs.Values.{effect_of, is_idle, subjects_of, Narrower}
-use Rattle.rules.specs.Numbers.{number_of}
+use Rattle.rules.specs.Numbers.{place_of, number_of}
 use Rattle.rules.specs.declared.Effect.{Effect as Done}
 use Rattle.rules.proofs.Numbering.{rule_number}
 use Rattle.facts.specs.Quotes.{cites_of, says_of, Cites}
@@ -38,6 +38,7 @@ use Rattle.slips.specs.declared.Header.{Header}
 use Rattle.slips.specs.declared.writing.Quoting.{Quoting}
 use Rattle.slips.specs.Telling.{written_by, Writable}
 use Rattle.slips.proofs.Filling.{same_premises}
+use Rattle.slips.proofs.Wording.{own_kind}
 use Rattle.rounds.specs.Held.{Held}
 use Rattle.rounds.specs.State.{status_of, still, room, state_at, state_of, Leads, fixed, Of, Moves, Made}
 use Rattle.rounds.specs.Attempts.{stored, table_after, status_after, written, Entered, Tried, Found}
@@ -46,7 +47,26 @@ use Rattle.rounds.specs.declared.Log.{Log}
 use Rattle.rounds.specs.declared.CageJob.{CageJob}
 use Rattle.rounds.proofs.Moves.{agree, leads_none, made_rest, moves_from}
 
--- ---- the subject of a rule
+-- ---- the number of a rule, and its subject
+
+-- The numbers of the rules end at 18.
+pub few_rules : (q : Rule) → number_of q ≤ 18
+few_rules lag_upper = omega arith
+few_rules lag_lower = omega arith
+few_rules (reservoir m b f) = go m b f
+  where
+    place : (f : Family) → place_of f ≤ 2
+    place level = omega arith
+    place time = omega arith
+    place height = omega arith
+
+    go : (m b : Bool) (f : Family) → number_of (reservoir m b f) ≤ 18
+    go false false f = omega (arith, place f)
+    go false true f = omega (arith, place f)
+    go true false f = omega (arith, place f)
+    go true true f = omega (arith, place f)
+few_rules (total false) = omega arith
+few_rules (total true) = omega arith
 
 -- A subject that a rule has in the job at hand it has in its calls.
 subject_there : {k : Job} {ws : List ℤ} {j : Call} {e : ℕ} → Holds k ws j → (r : Rule) → e < subjects_of r k ws → e < subjects r j
@@ -305,35 +325,37 @@ module _ (k : CageJob) (q : Rule) {e y : ℕ} {x : Done} (tries : Tried k q e y)
       (outcome_agree j (windows (table_of n j.window_table b)) (board b) (rw h.events_are (agree n j.window_table b)) (lags_of h tries.fit) q e y (subject_there h q tries.subject) (rw h.events_are tries.target)
       ∙ sym (does.is j o))
 
-  module _ {c : Citing} (cites : Cites k.job k.lags.now (board k.board.now.words) q e y x c) where
+  -- A slip names the rule by a number, and by the end of its bounds.
+  module _ {c : Citing} {r : ℕ} {i : End} (cites : Cites k.job k.lags.now (board k.board.now.words) q e y x c) (named : rule r ≡ q) (own : i ≡ own_end q) where
     -- The slip that the code writes can be written.
-    pub writes : Writes k.job.events (board k.board.now.words) c e y
-    writes =
+    pub writes : r ≤ 18 → Writes k.job.events (board k.board.now.words) c r e y
+    writes few =
         record {
           ranged = k.held.ranged;
           known = cites.known;
+          numbered = few;
           subject = omega (arith, tries.subject, few_subjects tries.fit q);
           target = omega (arith, tries.target, k.held.ranged.few);
         }
 
     -- It is the definitions' slip.
-    slip_is : (j : Call) → Of k j → slip_of k.job.events (board k.board.now.words) c q e y x ≡ explanation (number_of q) j (windows (table_of k.job.events j.window_table k.board.now.words)) e y (effect_of x)
+    slip_is : (j : Call) → Of k j → slip_of k.job.events (board k.board.now.words) c r i e y x ≡ explanation r j (windows (table_of k.job.events j.window_table k.board.now.words)) e y (effect_of x)
     slip_is j s =
         let n = k.job.events in
         let b = k.board.now.words in
         let h = s.holds in
         let same : Agree (events j) (board b) (windows (table_of n j.window_table b)) = rw h.events_are (agree_sym n (windows (table_of n j.window_table b)) (board b) (agree n j.window_table b)) in
-        let here : slip_of n (board b) c q e y x ≡ explanation (number_of q) j (board b) e y (effect_of x) = rw (rule_number q, same_premises j s cites) in
-        here ∙ explanation_agree j (board b) (windows (table_of n j.window_table b)) same (number_of q) e y (effect_of x) (rw (rule_number q) (subject_there h q tries.subject))
+        let here : slip_of n (board b) c r i e y x ≡ explanation r j (board b) e y (effect_of x) = rw (named, own, own_kind q (effect_of x), same_premises j s cites) in
+        here ∙ explanation_agree j (board b) (windows (table_of n j.window_table b)) same r e y (effect_of x) (rw named (subject_there h q tries.subject))
 
-    module _ {l l' : Log} {b' : List ℤ} {t : Bool} (entered : Entered (slip_of k.job.events (board k.board.now.words) c q e y x) (status_after (effect_of x)) l l') (told : t ≡ written (status_of l'.status)) (put : b' ≡ cond t (stored (own_end q) y (effect_of x) k.board.now.words) k.board.now.words) where
+    module _ {l l' : Log} {b' : List ℤ} {t : Bool} (entered : Entered (slip_of k.job.events (board k.board.now.words) c r i e y x) (status_after (effect_of x)) l l') (told : t ≡ written (status_of l'.status)) (put : b' ≡ cond t (stored i y (effect_of x) k.board.now.words) k.board.now.words) where
       pub act_held : Held k.job.events b'
-      act_held = entered_held (number_of q) k.held tries.target (rw (rule_number q) does.narrower) (rw (rule_number q) does.range) entered told (rw (rule_number q) put)
+      act_held = entered_held r k.held tries.target (rw named does.narrower) (rw named does.range) entered told (rw (named, ← own) put)
 
-      pub act_made : {k' : CageJob} → is_idle (effect_of x) ≡ false → k'.board.now.words ≡ b' → fixed k' ≡ fixed k → Moves (λ j. acted (room l) (number_of q) j e y (effect_of x)) k l k' l'
+      pub act_made : {k' : CageJob} → is_idle (effect_of x) ≡ false → k'.board.now.words ≡ b' → fixed k' ≡ fixed k → Moves (λ j. acted (room l) r j e y (effect_of x)) k l k' l'
       act_made busy same s =
           record {
-            leads = rw same (act_leads (number_of q) k.held tries.target (rw (rule_number q) does.narrower) (rw (rule_number q) does.range) entered told (rw (rule_number q) put) busy slip_is);
+            leads = rw same (act_leads r k.held tries.target (rw named does.narrower) (rw named does.range) entered told (rw (named, ← own) put) busy slip_is);
             stays = s;
           }
 

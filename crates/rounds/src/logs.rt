@@ -22,6 +22,22 @@ fn status_after(x: Effect) -> Status
     }
 }
 
+impl Status {
+    // Does a call that stands so go on?
+    pub fn is_running(self) -> bool
+        ensures { result ≡ still (status_of self) }
+    {
+        self == Status::Running
+    }
+
+    // Was the slip written that was last entered?
+    pub fn is_written(self) -> bool
+        ensures { result ≡ written (status_of self) }
+    {
+        self != Status::Stopped
+    }
+}
+
 impl<'a> Log<'a> {
     // The list in a lent buffer, no slip yet.
     pub fn new(buffer: &'a mut [i32]) -> Log<'a>
@@ -43,14 +59,14 @@ impl<'a> Log<'a> {
     pub fn is_running(&self) -> bool
         ensures { result ≡ still (status_of self.now.status) }
     {
-        self.status == Status::Running
+        self.status.is_running()
     }
 
     // Was the slip written that was last entered?
     pub fn is_written(&self) -> bool
         ensures { result ≡ written (status_of self.now.status) }
     {
-        self.status != Status::Stopped
+        self.status.is_written()
     }
 
     // The slip in the buffer behind the list counted, which ends at a place and has an effect.

@@ -1,6 +1,7 @@
 // The attempts of a round in order: of lags, and of events with rules 3 to 14, targets in event order. Those of sets come between: they read no cage.
 ghost use Rattle.std.specs.Prelude.{◌≡◌, [], ◌∷◌, ◌+◌, ◌/◌, ◌<◌, ◌≤◌, length};
 ghost use Rattle.model.specs.Agenda.{lag_attempts, target_attempts, three_attempts, event_attempts};
+ghost use Rattle.rules.specs.Values.{IsLag};
 ghost use Rattle.rounds.specs.State.{Made};
 ghost use Rattle.rounds.specs.Sweeps.{first_of, first_in, Seen, Looks, two_attempts, between_attempts, lags_attempts, events_attempts};
 
@@ -38,6 +39,16 @@ impl CageJob<'_> {
 
     // ---- lags
 
+    // Rules 1 and 2 of lag g, made one after the other. By itself: the loop over the lags then holds no more than the test that passes most of them over.
+    #[inline(never)]
+    fn both_rules(&mut self, g: usize, lag: Lag, log: &mut Log<'_>)
+        requires { (g < length self.old.lags.now / 3) × IsLag self.old.lags.now g lag }
+        ensures { Made (λ j. lag_attempts j g) self.old log.old self.new log.new }
+    {
+        self.attempt(Rule::LagUpper, g, lag.a, log);
+        self.attempt(Rule::LagLower, g, lag.b, log);
+    }
+
     // Rules 1 and 2 of lag g, unless both leave the windows as they are.
     pub fn lag_rules(&mut self, g: usize, log: &mut Log<'_>)
         requires { g < length self.old.lags.now / 3 }
@@ -47,8 +58,7 @@ impl CageJob<'_> {
         if is_kept(self.board, lag) {
             return;
         }
-        self.attempt(Rule::LagUpper, g, lag.a, log);
-        self.attempt(Rule::LagLower, g, lag.b, log);
+        self.both_rules(g, lag, log);
     }
 
     // All lags in table order.

@@ -82,7 +82,8 @@ impl<'a> Attempt<'a> {
         }
     }
 
-    // What its rule gives.
+    // What its rule gives. Made part of its caller, as `effect` and an attempt of a round are: there the rule is known, and a lag asks for no view.
+    #[inline(always)]
     pub fn finding(self) -> Finding
         ensures { Gives self.entry result }
     {

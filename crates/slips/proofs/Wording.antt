@@ -1,6 +1,6 @@
 -- A slip's words appended part by part.
 -- Assumes nothing.
-use mathlib.Core.Path.{◌≡◌, sym, ap, ◌∙◌}
+use mathlib.Core.Path.{◌≡◌, refl, sym, ap, ◌∙◌}
 use mathlib.Core.List.{List, [], ◌∷◌, ◌++◌, append_assoc}
 use Prim.Native.Nat.{ℕ, ◌+◌, ◌*◌, ◌-◌, ◌/◌, ◌≤◌}
 use native.Mathlib.Omega.{arith}
@@ -9,11 +9,13 @@ use lib.ListN.{length, take, drop, length-append}
 use lib.Seq.{length-take-le, take-add, take_at, drop_at, take-take, drop-drop}
 use Rattle.model.specs.Job.{Windows}
 use Rattle.model.specs.Standing.{Ranged}
-use Rattle.model.specs.Slips.{premise_list, Explanation, premise_words, slip_words}
+use Rattle.model.specs.Rules.{Rule, own_end, Effect, idle, narrows, fails}
+use Rattle.model.specs.Slips.{premise_list, Explanation, premise_words, slip_words, concluded_kind}
 use Rattle.model.proofs.Words.{premise_list_length}
 use Rattle.facts.specs.Quotes.{cites_of, says_of}
 use Rattle.facts.specs.declared.Citing.{Citing}
 use Rattle.slips.specs.Words.{Appended}
+use Rattle.slips.specs.Slip.{kind_at}
 use Rattle.slips.specs.Writing.{Wrote}
 use Rattle.slips.specs.declared.writer.Writer.{Writer}
 use Rattle.slips.proofs.Filling.{appended_both, wrote_both, words_length}
@@ -27,6 +29,12 @@ drop_later l m u v h e =
 -- At most four facts an event.
 pub few_facts : {n : ℕ} {W : Windows} (c : Citing) → Ranged n W → length (premise_list n (cites_of c W) (says_of c W)) ≤ 256
 few_facts {n} {W} c r = omega (arith, premise_list_length n (cites_of c W) (says_of c W), r.few)
+
+-- A rule's slip concludes with the kind of its own end.
+pub own_kind : (r : Rule) (x : Effect) → kind_at (own_end r) x ≡ concluded_kind r x
+own_kind r idle = refl
+own_kind r (narrows v) = refl
+own_kind r fails = refl
 
 -- The six words before the facts.
 abbrev pub head_words : Explanation → ℕ → List ℤ

@@ -1,14 +1,14 @@
 -- A slip as the code writes it, and as it is read from a list: its header and its facts.
 use Rattle.std.specs.Prelude.{◌≡◌, true, false, List, [], ◌∷◌, ℕ, ◌+◌, ◌≤◌, ℤ, pos, nat_abs, Option, Some, None, MatchOption}
-use Rattle.model.specs.Job.{Windows}
+use Rattle.model.specs.Job.{End, Windows}
 use Rattle.model.specs.Standing.{Ranged}
-use Rattle.model.specs.Rules.{known_rule, Rule}
-use Rattle.model.specs.Slips.{Premise, Explanation, at, premise_list, concluded_kind, concluded_value}
+use Rattle.model.specs.Rules.{known_rule, Effect, idle, narrows, fails}
+use Rattle.model.specs.Slips.{Premise, Explanation, number, at, premise_list, concluded_value}
 use Rattle.model.specs.Questions.{in_range}
 use Rattle.model.specs.Reader.{Reading, slip, cut, stop_of, counted}
 use Rattle.rules.specs.Values.{rule_of, effect_of}
 use Rattle.rules.specs.Numbers.{number_of}
-use Rattle.rules.specs.declared.Effect.{Effect}
+use Rattle.rules.specs.declared.Effect.{Effect as Done}
 use Rattle.rules.specs.declared.Rule.{Rule as Named}
 use Rattle.facts.specs.Quotes.{cites_of, says_of, Known}
 use Rattle.facts.specs.declared.Citing.{Citing}
@@ -19,22 +19,29 @@ use Rattle.slips.specs.declared.Trailer.{Trailer}
 
 -- ---- written
 
--- The slip of rule r with subject e, target y and effect x, whose facts are those cited.
-abbrev pub slip_of : ℕ → Windows → Citing → Rule → ℕ → ℕ → Effect → Explanation
-slip_of n W c r e y x =
+-- The kind that a slip concludes with: that of the end k of its bound, or 0 for a conflict. Of a rule's own end it is the definitions' (`own_kind` in proofs/Wording).
+abbrev pub kind_at : End → Effect → ℕ
+kind_at k idle = 0
+kind_at k (narrows v) = number k
+kind_at k fails = 0
+
+-- The slip of the rule with number r, whose bounds are about the end k, with subject e, target y and effect x, whose facts are those cited.
+abbrev pub slip_of : ℕ → Windows → Citing → ℕ → End → ℕ → ℕ → Done → Explanation
+slip_of n W c r k e y x =
     record {
-      rule = pos (number_of r);
+      rule = pos r;
       subject = pos e;
       target = pos y;
-      kind = pos (concluded_kind r (effect_of x));
+      kind = pos (kind_at k (effect_of x));
       value = concluded_value (effect_of x);
       premises = premise_list n (cites_of c W) (says_of c W);
     }
 
--- It can be written: subject and target are small, the windows in range.
-pub record Writes (n : ℕ) (W : Windows) (c : Citing) (e y : ℕ) : Type 0 where
+-- It can be written: number, subject and target are small, the windows in range.
+pub record Writes (n : ℕ) (W : Windows) (c : Citing) (r e y : ℕ) : Type 0 where
   pub ranged : Ranged n W
   pub known : Known n c
+  pub numbered : r ≤ 18
   pub subject : e ≤ 256
   pub target : y ≤ 64
 

@@ -7,7 +7,6 @@ use Rattle.tables.specs.Board.{board}
 use Rattle.tables.specs.Ends.{end_of}
 use Rattle.tables.specs.declared.ends.Word.{Word}
 use Rattle.facts.specs.Quotes.{cites_of, says_of, Known}
-use Rattle.rules.specs.Values.{rule_of}
 use Rattle.facts.specs.declared.LagCiting.{LagCiting}
 use Rattle.slips.specs.Slip.{slip_of, Writes}
 use Rattle.slips.specs.declared.Header.{Header}
@@ -51,7 +50,7 @@ pub record Quotable (q : Quoting) : Type 0 where
 
 -- The slip with a header and these facts; it can be written.
 abbrev pub written_by : Header → Quoting → Explanation
-written_by h q = slip_of q.events (board q.board.now.words) q.cited (rule_of h.rule) h.subject h.target h.effect
+written_by h q = slip_of q.events (board q.board.now.words) q.cited h.number (end_of h.end) h.subject h.target h.effect
 
 abbrev pub Writable : Header → Quoting → Type 0
-Writable h q = Writes q.events (board q.board.now.words) q.cited h.subject h.target
+Writable h q = Writes q.events (board q.board.now.words) q.cited h.number h.subject h.target

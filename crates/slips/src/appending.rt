@@ -1,8 +1,9 @@
 // A slip and the trailer as words, appended to the list in the slip buffer.
 ghost use Rattle.std.specs.Prelude.{◌≡◌, [], ◌∷◌, ◌+◌, ◌*◌, ◌<◌, ◌≤◌, pos, length};
-ghost use Rattle.model.specs.Slips.{slip_words, trailer, concluded_kind, concluded_value};
-ghost use Rattle.rules.specs.Values.{rule_of, effect_of};
-ghost use Rattle.rules.specs.Numbers.{number_of};
+ghost use Rattle.model.specs.Slips.{slip_words, trailer, concluded_value};
+ghost use Rattle.tables.specs.Ends.{end_of};
+ghost use Rattle.rules.specs.Values.{effect_of};
+ghost use Rattle.slips.specs.Slip.{kind_at};
 ghost use Rattle.slips.specs.Writing.{HasRoom, Wrote};
 ghost use Rattle.slips.specs.Telling.{written_by, Writable};
 
@@ -15,12 +16,12 @@ use tables::Word;
 impl Header {
     // What the slip concludes with: the kind of its bound and the bound, or 0 and 0 for a conflict.
     fn conclusion(self) -> (usize, Word)
-        ensures { (result.0 ≡ concluded_kind (rule_of self.rule) (effect_of self.effect))
+        ensures { (result.0 ≡ kind_at (end_of self.end) (effect_of self.effect))
             × (result.1.0 ≡ concluded_value (effect_of self.effect))
             × (result.0 ≤ 4) }
     {
         match self.effect {
-            Effect::Narrows(bound) => (self.rule.own_end().kind(), bound),
+            Effect::Narrows(bound) => (self.end.kind(), bound),
             Effect::Idle | Effect::Fails => (0, Word(0)),
         }
     }
@@ -30,17 +31,18 @@ impl<'a> Writer<'a> {
     // The words of a slip before its facts, which are as many as `facts` says.
     fn put_head(&mut self, h: Header, facts: usize)
         requires { HasRoom 6 self.old
+            × (h.number ≤ 18)
             × (h.subject ≤ 256)
             × (h.target ≤ 64)
             × (facts ≤ 256) }
         ensures words { Wrote
-            (pos (number_of (rule_of h.rule)) ∷ pos h.subject ∷ pos h.target ∷ pos (concluded_kind (rule_of h.rule) (effect_of h.effect)) ∷ concluded_value (effect_of h.effect) ∷ pos facts ∷ [])
+            (pos h.number ∷ pos h.subject ∷ pos h.target ∷ pos (kind_at (end_of h.end) (effect_of h.effect)) ∷ concluded_value (effect_of h.effect) ∷ pos facts ∷ [])
             self.old self.new }
         ensures same_buffer { self.new.words.ghost_name ≡ self.old.words.ghost_name }
     {
         let (kind, value) = h.conclusion();
         self.put([
-            h.rule.number() as i32,
+            h.number as i32,
             h.subject as i32,
             h.target as i32,
             kind as i32,

@@ -10,7 +10,7 @@ ghost use Rattle.std.specs.Prelude.{◌≡◌, ◌≤◌};
 ghost use Rattle.model.specs.Slips.{slip_length};
 
 use rules::{Effect, Rule};
-use tables::Word;
+use tables::{End, Word};
 
 // The trailer's last word.
 pub const MARK: usize = 4207;
@@ -34,10 +34,11 @@ pub fn slip_length(facts: usize) -> usize
     7 + 3 * facts
 }
 
-// What a slip that is written says beside its facts: the rule tried, its subject and target, and the effect.
+// What a slip that is written says beside its facts: the number of the rule tried, the end that its bounds are about, its subject and target, and the effect.
 #[derive(Clone, Copy)]
 pub struct Header {
-    pub rule: Rule,
+    pub number: usize,
+    pub end: End,
     pub subject: usize,
     pub target: usize,
     pub effect: Effect,

@@ -8,16 +8,16 @@ pub show-requires : goal.show-requires
 show-requires c = rw c.blank-s.ensures blank
 
 pub enter-requires : goal.enter-requires
-enter-requires c = writes c.args.self.now c.requires.0 c.show.ensures c.total_citing.ensures
+enter-requires c = writes c.args.self.now c.requires.0 c.show.ensures c.total_citing.ensures c.number.ensures c.own_end.ensures
 
 pub invariant_of-self : goal.invariant_of-self
 invariant_of-self c =
     let k = c.args.self.now in
     record {
-      held = act_held k c.requires.0 c.show.ensures c.total_citing.ensures c.enter.ensures c.is_written.ensures c.store_if.ensures;
+      held = act_held k c.requires.0 c.show.ensures c.total_citing.ensures c.number.ensures c.own_end.ensures c.enter.ensures c.is_written.ensures c.store_if.ensures;
       placed = k.placed;
     }
 
 pub returns : goal.returns
 returns c =
-    act_moved c.args.self.now c.requires.0 c.show.ensures c.total_citing.ensures c.enter.ensures c.is_written.ensures c.store_if.ensures c.requires.1 refl refl
+    act_moved c.args.self.now c.requires.0 c.show.ensures c.total_citing.ensures c.number.ensures c.own_end.ensures c.enter.ensures c.is_written.ensures c.store_if.ensures c.requires.1 refl refl

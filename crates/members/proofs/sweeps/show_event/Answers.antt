@@ -5,4 +5,4 @@ use Rattle.members.proofs.sweeps.show_event.Goals as goal
 pub returns : goal.returns
 returns c =
     let a = c.args in
-    stored_amounts a.b.now.words a.y a.s.now.words c.end.ensures c.set_end.ensures c.end-2.ensures c.set_end-2.ensures
+    stored_amounts a.b.now.words a.y a.s.now.words c.h_min.ensures c.set_h_min.ensures c.h_max.ensures c.set_h_max.ensures

@@ -1,6 +1,6 @@
 -- `rounds::CageJob::act` enters a slip and stores the new end. Assumes nothing.
 use mathlib.Core.Path.{refl}
-use Rattle.rules.specs.Values.{rule_of}
+use Rattle.model.specs.Rules.{rule}
 use Rattle.rounds.proofs.Trying.{act_held, act_made}
 use Rattle.rounds.proofs.CageJob.act.Goals as goal
 
@@ -9,9 +9,9 @@ invariant_of-self c =
     let k = c.args.self.now in
     record {
       fit = k.fit;
-      held = act_held k (rule_of c.args.header.rule) c.requires.0 c.requires.1 c.requires.2 c.enter.ensures c.is_written.ensures c.store_if.ensures;
+      held = act_held k (rule c.args.header.number) c.requires.2 c.requires.3 c.requires.4 refl c.requires.1 c.enter.ensures c.is_written.ensures c.store_if.ensures;
     }
 
 pub returns : goal.returns
 returns c =
-    act_made c.args.self.now (rule_of c.args.header.rule) c.requires.0 c.requires.1 c.requires.2 c.enter.ensures c.is_written.ensures c.store_if.ensures c.requires.3 refl refl
+    act_made c.args.self.now (rule c.args.header.number) c.requires.2 c.requires.3 c.requires.4 refl c.requires.1 c.enter.ensures c.is_written.ensures c.store_if.ensures c.requires.5 refl refl

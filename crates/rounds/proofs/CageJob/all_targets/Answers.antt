@@ -10,7 +10,7 @@ use Rattle.rules.specs.Values.{rule_of}
 use Rattle.rules.specs.Numbers.{number_of}
 use Rattle.rounds.specs.Sweeps.{first_in}
 use Rattle.rounds.proofs.Moves.{moves_from, made_none, made_on}
-use Rattle.rounds.proofs.Passing.{height_number, sees_height, looks_next, there_next, targets_passed, target_passed, leaves_on}
+use Rattle.rounds.proofs.Passing.{height_number, sees_height, looks_next, there_next, targets_passed, target_passed, leaves_made}
 use Rattle.rounds.proofs.CageJob.all_targets.Goals as goal
 use Rattle.rounds.proofs.CageJob.all_targets.Goals.{then-is_moved, else-is_moved}
 
@@ -50,7 +50,7 @@ loop-y-preserved c =
     elim c.if-is_moved.branch [
       | then-is_moved w ↦
           let d = moves_from {k = k} refl refl w.attempt.ensures in
-          rw (w.self-is, w.log-is) (made_on todo y m d, leaves_on sees level real d)
+          rw (w.self-is, w.log-is) (made_on todo y m d, leaves_made sees level real d)
       | else-is_moved w ↦
           rw (w.self-is, w.log-is) (made_on todo y m (target_passed k c.loop-y.log refl refl sees level real c.is_moved.ensures w.if-is_moved.false), level)
     ]

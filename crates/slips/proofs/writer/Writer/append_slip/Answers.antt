@@ -10,7 +10,7 @@ put_head-requires c =
     let p = c.requires.0 in
     let few = few_facts c.args.quoting.now.cited p.ranged in
     let count = c.requires.1 in
-    (omega (arith, c.requires.2), p.subject, p.target, omega arith)
+    (omega (arith, c.requires.2), p.numbered, p.subject, p.target, omega arith)
 
 pub put_length-requires : goal.put_length-requires
 put_length-requires c =

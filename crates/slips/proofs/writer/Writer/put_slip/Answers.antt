@@ -20,7 +20,7 @@ put_head-requires c =
     let room = c.requires.1 in
     let w = c.put_facts.ensures.words.appended in
     let m = facts_counted (written_by c.args.h c.args.quoting.now) w refl in
-    (omega arith, p.subject, p.target, omega arith)
+    (omega arith, p.numbered, p.subject, p.target, omega arith)
 
 pub put_length-requires : goal.put_length-requires
 put_length-requires c =
