@@ -38,7 +38,9 @@ fn take_slip(
     requires { ReadyFor c.now b.old.words × (p ≤ length slips.now) }
     ensures { Stepped c.now slips.now (length slips.now) p left b.old.words b.new.words result }
 {
-    let (slip, next) = read_slip(slips, p).ok_or(Question::Slip)?;
+    let Some((slip, next)) = read_slip(slips, p) else {
+        return Err(Question::Slip);
+    };
     let named = slip_questions(b, c, &slip, left)?;
     apply(b, &named);
     Ok(Tail {

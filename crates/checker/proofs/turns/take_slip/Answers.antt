@@ -5,24 +5,21 @@ use Rattle.model.specs.Reader.{is_conflict, applied}
 use Rattle.slips.specs.Slip.{explanation_of}
 use Rattle.tables.specs.Board.{board, table_of}
 use Rattle.judging.specs.Ready.{job_of}
-use Rattle.questions.specs.declared.Question.TheVariants.{Slip}
 use Rattle.checker.proofs.Turning.{asked_cut, slip_there, applies_is, no_bound}
 use Rattle.checker.proofs.turns.take_slip.Goals as goal
 
-pub returns-in_err-slip : goal.returns-in_err-slip
-returns-in_err-slip c =
+pub returns-in_default : goal.returns-in_default
+returns-in_default c =
     let a = c.args in
     let f : c.read_slip.result ≡ None = grind arith in
-    let q : c.in_err-slip.field-0.0 ≡ Slip = grind arith in
-    let p = err_from_is_err_and c.from_residual.result c.from_residual.ensures.1 in
-    rw (p.1, p.2, q) (asked_cut (job_of a.c.now) (board a.c.now.wide.now.words) (board a.b.now.words) a.slips.now (length a.slips.now) a.p a.left (rw f at c.read_slip.ensures.0))
+    asked_cut (job_of a.c.now) (board a.c.now.wide.now.words) (board a.b.now.words) a.slips.now (length a.slips.now) a.p a.left (rw f at c.read_slip.ensures.0)
 
 pub returns-in_err-named : goal.returns-in_err-named
 returns-in_err-named c =
     let a = c.args in
-    let f : c.read_slip.result ≡ Some (c.in_ok-slip.slip, c.in_ok-slip.next) = grind arith in
-    let p = err_from_is_err_and c.from_residual-in_err-named.result c.from_residual-in_err-named.ensures.1 in
-    let t = slip_there (job_of a.c.now) (board a.c.now.wide.now.words) (board a.b.now.words) a.slips.now (length a.slips.now) a.p a.left c.in_ok-slip.slip (rw f at c.read_slip.ensures.0) in
+    let f : c.read_slip.result ≡ Some (c.in-Some.slip, c.in-Some.next) = grind arith in
+    let p = err_from_is_err_and c.from_residual.result c.from_residual.ensures.1 in
+    let t = slip_there (job_of a.c.now) (board a.c.now.wide.now.words) (board a.b.now.words) a.slips.now (length a.slips.now) a.p a.left c.in-Some.slip (rw f at c.read_slip.ensures.0) in
     rw (p.1, p.2) (sym t.0 ∙ sym c.in_err-named.ensures.asked)
 
 pub apply-requires : goal.apply-requires
@@ -38,9 +35,9 @@ returns c =
     let a = c.args in
     let n = a.c.now.job.events in
     let table = a.c.now.table.now in
-    let f : c.read_slip.result ≡ Some (c.in_ok-slip.slip, c.in_ok-slip.next) = grind arith in
+    let f : c.read_slip.result ≡ Some (c.in-Some.slip, c.in-Some.next) = grind arith in
     let s = rw f at c.read_slip.ensures.1 in
-    let t = slip_there (job_of a.c.now) (board a.c.now.wide.now.words) (board a.b.now.words) a.slips.now (length a.slips.now) a.p a.left c.in_ok-slip.slip (rw f at c.read_slip.ensures.0) in
+    let t = slip_there (job_of a.c.now) (board a.c.now.wide.now.words) (board a.b.now.words) a.slips.now (length a.slips.now) a.p a.left c.in-Some.slip (rw f at c.read_slip.ensures.0) in
     let m = c.in_ok-named.named in
     let q = c.in_ok-named.ensures in
     let is = ap explanation_of q.named ∙ t.1 in
