@@ -102,6 +102,17 @@ fn step(s: Scan, b: u8, table: &mut [i32]) -> Scan
     }
 }
 
+// The bytes of a piece more. Where the text stands is held by itself on the way: as the scanner's field it would be stored and read again at each byte.
+fn steps(s: Scan, piece: &[u8], table: &mut [i32]) -> Scan
+    ensures { state result table.new ≡ fed (state s table.old) piece.now }
+{
+    let mut scan = s;
+    for b in piece {
+        scan = step(scan, *b, table);
+    }
+    scan
+}
+
 // Where a text stands, and a lent table that holds its numbers.
 #[derive(Drop)]
 pub struct Scanner<'a> {
@@ -128,8 +139,6 @@ impl<'a> Scanner<'a> {
         ensures same_table { self.new.table.ghost_name ≡ self.old.table.ghost_name }
         ensures scan { state_of self.new ≡ fed (state_of self.old) piece.now }
     {
-        for b in piece {
-            self.scan = step(self.scan, *b, self.table);
-        }
+        self.scan = steps(self.scan, piece, self.table);
     }
 }
