@@ -9,13 +9,12 @@ use checker::check;
 use questions::Refusal;
 use reservoir::plan_and_read;
 use scanner::{Scan, Scanner};
-use std::alloc::Global;
+use std::fmt;
 use std::fmt::Display;
-use std::io;
-use std::io::{BufWriter, Read, Write};
+use std::io::Read;
 
 // The program reads no more bytes.
-const MOST_BYTES: u64 = 65536;
+const MOST_BYTES: usize = 65536;
 
 // A case has no more numbers.
 const MOST_NUMBERS: usize = 1030;
@@ -38,19 +37,34 @@ impl From<i32> for Called {
 }
 
 // A case: who is called, and with which numbers and tables.
-#[derive(Clone, Copy)]
+#[derive(Drop)]
 struct Case<'a> {
     called: Called,
     horizon: i32,
     limit: i32,
     cages: &'a [i32],
-    windows: &'a [i32],
+    windows: &'a mut [i32],
     lags: &'a [i32],
     sets: &'a [i32],
-    list: &'a [i32],
+    list: &'a mut [i32],
 }
 
 // ---- read
+
+// Reads until the space is full, the input ends or a read fails, and returns how many bytes it put at the start of the space.
+fn read_full(input: &mut impl Read, space: &mut [u8]) -> usize
+    ensures { result ≤ length space.new }
+{
+    let mut done = 0;
+    while done < space.len() {
+        let got = input.read(&mut space[done..]).unwrap_or(0);
+        if got == 0 {
+            break;
+        }
+        done += got;
+    }
+    done
+}
 
 // The bytes before the first b, and those from it on.
 fn before(s: &[u8], b: u8) -> (&[u8], &[u8])
@@ -61,14 +75,14 @@ fn before(s: &[u8], b: u8) -> (&[u8], &[u8])
 }
 
 // As many words as a number says, at most so many, and those behind them.
-fn table(words: &[i32], size: i32, most: usize) -> Option<(&[i32], &[i32])> {
+fn table(words: &mut [i32], size: i32, most: usize) -> Option<(&mut [i32], &mut [i32])> {
     let n = usize::try_from(size).ok().filter(|n| *n <= most)?;
-    words.split_at_checked(n)
+    words.split_at_mut_checked(n)
 }
 
 // The case that the numbers are: a header and five tables.
-fn case_of(numbers: &[i32]) -> Option<Case<'_>> {
-    let (head, words) = numbers.split_first_chunk::<8>()?;
+fn case_of(numbers: &mut [i32]) -> Option<Case<'_>> {
+    let (head, words) = numbers.split_first_chunk_mut::<8>()?;
     let [kind, horizon, limit, cages, windows, lags, sets, list] = *head;
     let (cages, words) = table(words, cages, 40)?;
     let (windows, words) = table(words, windows, 360)?;
@@ -88,116 +102,116 @@ fn case_of(numbers: &[i32]) -> Option<Case<'_>> {
 }
 
 // ---- print
+// Whoever runs the program compares what it printed, so a write that fails is passed over.
+
+// A text.
+fn say(rt: &impl Print, text: impl Display + Drop) {
+    let _ = rt.print(text);
+}
 
 // An answer or a refusal, on a line.
-fn show<T: Display + Drop>(out: &mut impl Write, reply: Result<T, Refusal>) -> io::Result<()> {
-    match reply {
-        Ok(answer) => writeln!(out, "{answer}"),
-        Err(refusal) => writeln!(out, "{refusal}"),
-    }
+fn show<T: Display + Drop>(rt: &impl Print, reply: Result<T, Refusal>) {
+    let _ = match reply {
+        Ok(answer) => rt.println(answer),
+        Err(refusal) => rt.println(refusal),
+    };
 }
 
 // A title and words, on one line.
-fn line(out: &mut impl Write, title: &str, words: &[i32]) -> io::Result<()> {
-    write!(out, "{title}")?;
+fn line(rt: &impl Print, title: &str, words: &[i32]) {
+    say(rt, title);
     for word in words {
-        write!(out, " {word}")?;
+        say(rt, format_args!(" {word}"));
     }
-    writeln!(out)
+    say(rt, "\n");
 }
 
 // Each event's number and five words, a line each.
-fn windows(out: &mut impl Write, table: &[i32]) -> io::Result<()> {
+fn windows(rt: &impl Print, table: &[i32]) {
     for (y, event) in table.chunks_exact(5).enumerate() {
-        write!(out, "{y}")?;
-        line(out, "", event)?;
+        say(rt, y);
+        line(rt, "", event);
     }
-    Ok(())
 }
 
 // ---- call
 
 // What the planner writes is printed as the list, then what it leaves as it was, then what the reader says of that list.
-fn plan_case(alloc: Global, out: &mut impl Write, case: Case<'_>) -> io::Result<()> {
-    let mut table = case.windows.to_vec(alloc)?;
-    let mut buffer = case.list.to_vec(alloc)?;
-    let reply = plan_and_read(
-        case.horizon,
-        case.cages,
-        &mut table,
-        case.lags,
-        case.sets,
-        case.limit,
-        &mut buffer,
-    );
-    show(out, reply.map(|checked| checked.answer))?;
-    windows(out, &table)?;
+fn plan_case(rt: &impl Print, case: Case<'_>) {
+    let Case {
+        called: _,
+        horizon,
+        limit,
+        cages,
+        windows: table,
+        lags,
+        sets,
+        list: buffer,
+    } = case;
+    let reply = plan_and_read(horizon, cages, table, lags, sets, limit, buffer);
+    show(rt, reply.map(|checked| checked.answer));
+    windows(rt, table);
     let length = reply.map_or(0, |checked| checked.answer.length);
     if let Some((list, kept)) = buffer.split_at_checked(length) {
-        line(out, "list", list)?;
-        line(out, "kept", kept)?;
+        line(rt, "list", list);
+        line(rt, "kept", kept);
     }
-    write!(out, "read ")?;
-    show(out, reply.map(|checked| checked.judgement))
+    say(rt, "read ");
+    show(rt, reply.map(|checked| checked.judgement));
 }
 
 // The reader's answer, then the windows and the list.
-fn read_case(alloc: Global, out: &mut impl Write, case: Case<'_>) -> io::Result<()> {
-    let mut table = case.windows.to_vec(alloc)?;
-    let reply = check(
-        case.horizon,
-        case.cages,
-        &mut table,
-        case.lags,
-        case.sets,
-        case.list,
-    );
-    show(out, reply)?;
-    windows(out, &table)?;
-    line(out, "list", case.list)
+fn read_case(rt: &impl Print, case: Case<'_>) {
+    let Case {
+        called: _,
+        horizon,
+        limit: _,
+        cages,
+        windows: table,
+        lags,
+        sets,
+        list,
+    } = case;
+    show(rt, check(horizon, cages, table, lags, sets, list));
+    windows(rt, table);
+    line(rt, "list", list);
 }
 
 // One case.
-fn run_case(alloc: Global, out: &mut impl Write, text: &[u8]) -> io::Result<()> {
+fn run_case(rt: &impl Print, text: &[u8]) {
     let mut table = [0i32; MOST_NUMBERS];
     let mut scanner = Scanner::new(&mut table);
     scanner.feed(text);
     let Scan::Between(n) = scanner.scan else {
-        return writeln!(out, "not a case");
+        say(rt, "not a case\n");
+        return;
     };
-    let Some(case) = scanner.table.get(..n).and_then(case_of) else {
-        return writeln!(out, "not a case");
+    let Some(case) = table.get_mut(..n).and_then(case_of) else {
+        say(rt, "not a case\n");
+        return;
     };
     match case.called {
-        Called::Planner => plan_case(alloc, out, case),
-        Called::Reader => read_case(alloc, out, case),
+        Called::Planner => plan_case(rt, case),
+        Called::Reader => read_case(rt, case),
     }
 }
 
 // All cases. What stands before the first number sign is no case.
-fn run_all(alloc: Global, out: &mut impl Write, text: &[u8]) -> io::Result<()> {
+fn run_all(rt: &impl Print, text: &[u8]) {
     let (_, mut rest) = before(text, b'#');
     while let Some((_, case)) = rest.split_first() {
         let (name, numbers) = before(case, b'\n');
         let (numbers, next) = before(numbers, b'#');
-        out.write_all(b"#")?;
-        out.write_all(name)?;
-        writeln!(out)?;
-        run_case(alloc, out, numbers)?;
+        say(rt, "#");
+        let _ = rt.write_all(name);
+        say(rt, "\n");
+        run_case(rt, numbers);
         rest = next;
     }
-    out.flush()
-}
-
-// Whoever runs the program compares what it printed, so a read or a write that fails is passed over.
-fn run(rt: &HostRuntime) -> io::Result<()> {
-    let alloc = rt.alloc();
-    let mut text = Vec::new(alloc);
-    let _ = rt.stdin().take(MOST_BYTES).read_to_end(&mut text);
-    let mut out = BufWriter::new(alloc, rt.stdout())?;
-    run_all(alloc, &mut out, &text)
 }
 
 fn main(rt: HostRuntime) {
-    let _ = run(&rt);
+    let mut space = [0u8; MOST_BYTES];
+    let n = read_full(&mut rt.stdin(), &mut space);
+    run_all(&rt, &space[..n]);
 }

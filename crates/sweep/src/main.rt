@@ -4,37 +4,39 @@
 #![tactic(auto)]
 
 mod answers; // answers.rt: the line of a record
+mod input; // input.rt: standard input, word by word
+mod output; // output.rt: standard output, in pieces
 mod records; // records.rt: the records of a stream
 mod words; // words.rt: words of 32 bits and their checksum
 
 use answers::answer;
-use records::next_record;
-use std::alloc::Global;
-use std::io::{BufReader, BufWriter, Read, Write};
+use input::Input;
+use output::Output;
+use records::Tables;
+use std::fmt::Write;
+use std::io::Read;
 
-// Answers records until the one that ends the stream.
-fn answer_all(alloc: Global, input: &mut impl Read, output: &mut impl Write) -> anyhow::Result<()> {
+// Answers records until the one that ends the stream. No answer fails: the output passes over a write that does.
+fn answer_all(
+    tables: &mut Tables,
+    input: &mut Input<impl Read>,
+    output: &mut impl Write,
+) -> Result<(), &'static str> {
     for _ in 0..u64::MAX {
-        let Some(record) = next_record(alloc, input)? else {
+        let Some(record) = tables.next_record(input)? else {
             break;
         };
-        answer(output, record)?;
+        let _ = answer(output, record);
     }
-    Ok(())
-}
-
-// Whoever runs the program compares what it wrote, so a write that fails is passed over.
-fn run(rt: &HostRuntime) -> anyhow::Result<()> {
-    let alloc = rt.alloc();
-    let mut input = BufReader::with_capacity(alloc, 65536, rt.stdin())?;
-    let mut output = BufWriter::with_capacity(alloc, 65536, rt.stdout())?;
-    if let Err(why) = answer_all(alloc, &mut input, &mut output) {
-        writeln!(output, "{why}")?;
-    }
-    output.flush()?;
     Ok(())
 }
 
 fn main(rt: HostRuntime) {
-    let _ = run(&rt);
+    let mut tables = Tables::blank();
+    let mut input = Input::new(rt.stdin());
+    let mut output = Output::new(&rt);
+    if let Err(why) = answer_all(&mut tables, &mut input, &mut output) {
+        let _ = writeln!(output, "{why}");
+    }
+    output.flush();
 }
