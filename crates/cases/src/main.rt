@@ -5,7 +5,8 @@
 
 ghost use Rattle.std.specs.Prelude.{◌≤◌, length};
 
-use checker::check;
+use checker::{Judgement, check};
+use propagator::Answer;
 use questions::Refusal;
 use reservoir::plan_and_read;
 use scanner::{Scan, Scanner};
@@ -109,12 +110,33 @@ fn say(rt: &impl Print, text: impl Display + Drop) {
     let _ = rt.print(text);
 }
 
-// An answer or a refusal, on a line.
-fn show<T: Display + Drop>(rt: &impl Print, reply: Result<T, Refusal>) {
-    let _ = match reply {
-        Ok(answer) => rt.println(answer),
-        Err(refusal) => rt.println(refusal),
-    };
+// A word and two numbers, on a line.
+fn counted(rt: &impl Print, title: &str, numbers: [usize; 2]) {
+    say(rt, title);
+    for n in numbers {
+        say(rt, format_args!(" {n}"));
+    }
+    say(rt, "\n");
+}
+
+fn refused(rt: &impl Print, r: Refusal) {
+    counted(rt, "refused", [r.question.number(), r.place]);
+}
+
+// The planner's reply.
+fn planned(rt: &impl Print, reply: Result<Answer, Refusal>) {
+    match reply {
+        Ok(a) => counted(rt, a.verdict.name(), [a.slips, a.rounds]),
+        Err(r) => refused(rt, r),
+    }
+}
+
+// The reader's reply.
+fn judged(rt: &impl Print, reply: Result<Judgement, Refusal>) {
+    match reply {
+        Ok(judgement) => say(rt, format_args!("{judgement}\n")),
+        Err(r) => refused(rt, r),
+    }
 }
 
 // A title and words, on one line.
@@ -149,7 +171,7 @@ fn plan_case(rt: &impl Print, case: Case<'_>) {
         list: buffer,
     } = case;
     let reply = plan_and_read(horizon, cages, table, lags, sets, limit, buffer);
-    show(rt, reply.map(|checked| checked.answer));
+    planned(rt, reply.map(|checked| checked.answer));
     windows(rt, table);
     let length = reply.map_or(0, |checked| checked.answer.length);
     if let Some((list, kept)) = buffer.split_at_checked(length) {
@@ -157,7 +179,7 @@ fn plan_case(rt: &impl Print, case: Case<'_>) {
         line(rt, "kept", kept);
     }
     say(rt, "read ");
-    show(rt, reply.map(|checked| checked.judgement));
+    judged(rt, reply.map(|checked| checked.judgement));
 }
 
 // The reader's answer, then the windows and the list.
@@ -172,7 +194,7 @@ fn read_case(rt: &impl Print, case: Case<'_>) {
         sets,
         list,
     } = case;
-    show(rt, check(horizon, cages, table, lags, sets, list));
+    judged(rt, check(horizon, cages, table, lags, sets, list));
     windows(rt, table);
     line(rt, "list", list);
 }
@@ -202,8 +224,7 @@ fn run_all(rt: &impl Print, text: &[u8]) {
     while let Some((_, case)) = rest.split_first() {
         let (name, numbers) = before(case, b'\n');
         let (numbers, next) = before(numbers, b'#');
-        say(rt, "#");
-        let _ = rt.write_all(name);
+        let _ = rt.write_all(rest.get(..name.len().saturating_add(1)).unwrap_or(name));
         say(rt, "\n");
         run_case(rt, numbers);
         rest = next;
