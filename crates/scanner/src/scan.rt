@@ -81,23 +81,31 @@ fn valued(n: usize, negative: bool, v: u64) -> Scan
 fn digit(s: Scan, d: u8) -> Scan
     ensures { result ≡ grown s d }
 {
+    // Most digits follow one.
+    if let Scan::Digits(n, negative, v) = s {
+        return valued(n, negative, 10 * u64::from(v) + u64::from(d));
+    }
     match s {
         Scan::Between(n) => valued(n, false, u64::from(d)),
         Scan::Minus(n) => valued(n, true, u64::from(d)),
-        Scan::Digits(n, negative, v) => valued(n, negative, 10 * u64::from(v) + u64::from(d)),
-        Scan::Malformed => Scan::Malformed,
+        _ => Scan::Malformed,
     }
 }
 
-// One byte more.
+// One byte more. A blank and a digit are asked for by themselves, before the rest: a text is mostly these.
 #[tactic(auto, unfolding(crate::specs::Scanning::step))]
 fn step(s: Scan, b: u8, table: &mut [i32]) -> Scan
     ensures { state result table.new ≡ step (state s table.old) b }
 {
+    if b == b' ' {
+        return end_token(s, table);
+    }
+    if b.is_ascii_digit() {
+        return digit(s, b - b'0');
+    }
     match b {
-        b' ' | b'\t' | b'\n' | b'\r' => end_token(s, table),
+        b'\t' | b'\n' | b'\r' => end_token(s, table),
         b'-' => negate(s),
-        b'0'..=b'9' => digit(s, b - b'0'),
         _ => Scan::Malformed,
     }
 }
